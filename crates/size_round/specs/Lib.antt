@@ -1,0 +1,2 @@
+pub mod SizeMeanings
+pub mod Sizes
