@@ -1,0 +1,6 @@
+pub mod Cells
+pub mod Held
+pub mod Leaf
+pub mod Memory
+pub mod Runs
+pub mod Words

@@ -1,0 +1,365 @@
+//! The Space: raw bytes in cells of 64, a table with one tag a cell, and the leaves.
+#![tactic(auto)]
+
+mod leaf;
+mod runs;
+mod words;
+
+ghost use Rattle.std.specs.Prelude.{◌≡◌, ℕ, ◌+◌, ◌*◌, ◌≤◌, ◌<◌, ◌↔◌, true, false, length, slice_index, slice_set, option_map, IsNone, IfNone, IfSome, OnSome, OnOk, OnErr};
+ghost use Rattle.size_round.specs.Sizes.{limit};
+ghost use Rattle.space_core.specs.Cells.{cell_size, used_by, free_tag, tag_cells, least_cells, cells_granted, has_tag, cells_given};
+ghost use Rattle.space_core.specs.Memory.{IsMemory, most_cells, most_leaves, no_memory, fresh_memory};
+ghost use Rattle.space_core.specs.Words.{word_at, put_word, filled};
+
+pub use leaf::Mem;
+use std::alloc::{AllocError, Global};
+use std::marker::Model;
+use thiserror::Error;
+
+/// The bytes of a cell.
+pub const CELL_SIZE: u64 = 64;
+
+/// The greatest number of cells of a Space.
+pub const MOST_CELLS: u32 = 262_144;
+
+/// The greatest number of leaves that a Space makes.
+pub const MOST_LEAVES: u32 = 4096;
+
+/// The process has no memory left for a Space.
+#[derive(Clone, Copy, Debug, PartialEq, Eq, Error)]
+#[error("out of memory")]
+pub struct NoMemory;
+
+impl From<AllocError> for NoMemory {
+    fn from(_error: AllocError) -> NoMemory {
+        NoMemory
+    }
+}
+
+/// The memory of a Space that is set up: 64 bytes and one tag for each cell.
+#[derive(Drop)]
+struct Store {
+    bytes: Vec<u8>,
+    tags: Vec<u32>,
+}
+
+/// Raw bytes in cells of 64 bytes, with one tag a cell, where 0 is free.
+///
+/// Places are offsets in bytes from the Space's begin, and cells are counted from 0.
+#[derive(Drop)]
+pub struct Space {
+    store: Option<Store>,
+    leaves: u32,
+}
+
+impl Model for Space {
+    ghost use Rattle.space_core.specs.Memory.{Memory, IsMemory};
+    ghost use Rattle.space_core.specs.Held.{held_memory};
+
+    ghost Value = { Memory };
+
+    ghost view = { λ a. held_memory a.store a.leaves };
+
+    ghost invariant = { λ a. IsMemory (held_memory a.store a.leaves) };
+}
+
+impl Space {
+    /// A Space without cells and leaves. It takes no memory.
+    pub fn closed() -> Space
+        ensures { result ≡ no_memory 0 }
+    {
+        Space {
+            store: None,
+            leaves: 0,
+        }
+    }
+
+    /// Gives a closed Space so many cells, all free, with all bytes 0.
+    ///
+    /// # Errors
+    /// `NoMemory` where the process has no memory for them. The Space is as it was then.
+    pub fn set_up(&mut self, alloc: Global, cells: u32) -> Result<(), NoMemory>
+        requires closed { length self.old.cells.tags ≡ 0 }
+        requires some { 1 ≤ cells }
+        requires most { cells ≤ most_cells }
+        ensures ok { OnOk result (self.new ≡ fresh_memory cells self.old.leaves) }
+        ensures err { OnErr result (self.new ≡ self.old) }
+        ensures memory { IsMemory self.new }
+    {
+        let leaves = self.leaves;
+        let bytes = vec![in alloc; 0u8; CELL_SIZE as usize * cells as usize]?;
+        let tags = vec![in alloc; 0u32; cells as usize]?;
+        *self = Space {
+            store: Some(Store { bytes, tags }),
+            leaves,
+        };
+        Ok(())
+    }
+
+    /// How many cells there are.
+    pub fn cells(&self) -> u32
+        ensures { result ≡ length self.now.cells.tags }
+    {
+        self.tags().len() as u32
+    }
+
+    /// How many leaves the Space has made.
+    pub fn leaves(&self) -> u32
+        ensures { result ≡ self.now.leaves }
+    {
+        self.leaves
+    }
+
+    /// The tag of a cell, or 0 where it is free.
+    pub fn tag(&self, cell: u32) -> u32
+        requires { cell < length self.now.cells.tags }
+        ensures { result ≡ slice_index self.now.cells.tags cell }
+    {
+        self.tags()[cell as usize]
+    }
+
+    /// How many cells have the tag.
+    pub fn used_by(&self, tag: u32) -> u32
+        ensures { result ≡ used_by tag self.now.cells }
+    {
+        runs::count(self.tags(), tag) as u32
+    }
+
+    /// The byte at a place.
+    pub fn byte(&self, place: u64) -> u8
+        requires { place < length self.now.bytes }
+        ensures { result ≡ slice_index self.now.bytes place }
+    {
+        self.bytes()[place as usize]
+    }
+
+    /// The word of eight bytes at a place, lowest byte first.
+    pub fn word(&self, place: u64) -> u64
+        requires { place + 8 ≤ length self.now.bytes }
+        ensures { result ≡ word_at self.now.bytes place }
+    {
+        words::read_word(self.bytes(), place as usize)
+    }
+
+    /// Makes a closed leaf with a new tag, or `None` where the Space has made 4,096.
+    pub fn new_leaf(&mut self) -> Option<Mem>
+        ensures none { IsNone result ↔ (self.old.leaves ≡ most_leaves) }
+        ensures kept { IfNone result (self.new ≡ self.old) }
+        ensures leaf { IfSome result (λ leaf. leaf ≡ record { tag = self.old.leaves + 1; is_set = false }) }
+        ensures after { OnSome result (self.new ≡ record self.old { leaves = self.old.leaves + 1 }) }
+        ensures memory { IsMemory self.new }
+    {
+        if self.leaves == MOST_LEAVES {
+            return None;
+        }
+        self.leaves += 1;
+        Some(Mem::with_tag(self.leaves))
+    }
+
+    /// Writes the byte at a place.
+    pub fn set_byte(&mut self, place: u64, value: u8)
+        requires { place < length self.old.bytes }
+        ensures after { self.new ≡ record self.old { bytes = slice_set self.old.bytes place value } }
+        ensures memory { IsMemory self.new }
+    {
+        if let Some(store) = &mut self.store {
+            store.bytes[place as usize] = value;
+        }
+    }
+
+    /// Writes the word of eight bytes at a place, lowest byte first.
+    pub fn set_word(&mut self, place: u64, value: u64)
+        requires { place + 8 ≤ length self.old.bytes }
+        ensures after { self.new ≡ record self.old { bytes = put_word self.old.bytes place value } }
+        ensures memory { IsMemory self.new }
+    {
+        if let Some(store) = &mut self.store {
+            words::write_word(store.bytes.as_mut_slice(), place as usize, value);
+        }
+    }
+
+    /// Writes the value into the `n` bytes from a place on.
+    pub fn fill(&mut self, place: u64, n: u64, value: u8)
+        requires { place + n ≤ length self.old.bytes }
+        ensures after { self.new ≡ record self.old { bytes = filled self.old.bytes place n value } }
+        ensures memory { IsMemory self.new }
+    {
+        if let Some(store) = &mut self.store {
+            runs::put_run(
+                store.bytes.as_mut_slice(),
+                place as usize,
+                n as usize,
+                value,
+            );
+        }
+    }
+
+    /// Tags the least run of free cells that has room for so many bytes, and gives the place of its first.
+    ///
+    /// The place is a multiple of `align`, or of 64 where that is more.
+    /// `None` where there is no such run: nothing changes then.
+    pub fn grant(&mut self, tag: u32, bytes: u64, align: u64) -> Option<u64>
+        requires tag { 1 ≤ tag }
+        requires some { 1 ≤ bytes }
+        requires most { bytes ≤ limit }
+        requires align { align ≤ 4096 }
+        ensures place { result ≡ option_map (λ i. cell_size * i) (least_cells bytes align self.old.cells) }
+        ensures after { self.new ≡ record self.old { cells = cells_granted tag bytes (least_cells bytes align self.old.cells) self.old.cells } }
+        ensures within { IfSome result (λ place. place + bytes ≤ length self.old.bytes) }
+        ensures memory { IsMemory self.new }
+    {
+        let cells = ((bytes + (CELL_SIZE - 1)) / CELL_SIZE) as usize;
+        match runs::find_run(self.tags(), cells, align as usize) {
+            Some(first) => {
+                self.put_tag(tag, first, cells);
+                Some(CELL_SIZE * first as u64)
+            }
+            None => None,
+        }
+    }
+
+    /// Frees the cells that so many bytes from a place on touch, each of which has the tag.
+    pub fn give(&mut self, tag: u32, place: u64, bytes: u64)
+        requires some { 1 ≤ bytes }
+        requires most { bytes ≤ limit }
+        requires has { has_tag tag place bytes self.old.cells ≡ true }
+        ensures after { self.new ≡ record self.old { cells = cells_given place bytes self.old.cells } }
+        ensures memory { IsMemory self.new }
+    {
+        // The cells are counted from the first one's begin, so that no sum can be too large.
+        let cells = (place % CELL_SIZE + bytes + (CELL_SIZE - 1)) / CELL_SIZE;
+        self.put_tag(0, (place / CELL_SIZE) as usize, cells as usize);
+    }
+
+    /// Frees each cell that has the tag.
+    pub fn give_all(&mut self, tag: u32)
+        requires { 1 ≤ tag }
+        ensures after { self.new ≡ record self.old { cells = free_tag tag self.old.cells } }
+        ensures memory { IsMemory self.new }
+    {
+        if let Some(store) = &mut self.store {
+            runs::free_tag(store.tags.as_mut_slice(), tag);
+        }
+    }
+
+    fn bytes(&self) -> &[u8]
+        ensures bytes { result.now ≡ self.now.bytes }
+        ensures memory { IsMemory self.now }
+    {
+        match &self.store {
+            Some(store) => store.bytes.as_slice(),
+            None => &[],
+        }
+    }
+
+    fn tags(&self) -> &[u32]
+        ensures tags { result.now ≡ self.now.cells.tags }
+        ensures memory { IsMemory self.now }
+    {
+        match &self.store {
+            Some(store) => store.tags.as_slice(),
+            None => &[],
+        }
+    }
+
+    /// Gives the tag to so many cells from the first on.
+    fn put_tag(&mut self, tag: u32, first: usize, cells: usize)
+        requires { first + cells ≤ length self.old.cells.tags }
+        ensures after { self.new ≡ record self.old { cells = tag_cells tag first cells self.old.cells } }
+        ensures memory { IsMemory self.new }
+    {
+        if let Some(store) = &mut self.store {
+            runs::put_run(store.tags.as_mut_slice(), first, cells, tag);
+        }
+    }
+}
+
+#[cfg(test)]
+mod tests {
+    use super::*;
+    use std::process::Abort;
+
+    /// Asks for each row's tag, bytes and alignment, and wants the place at the row's end.
+    fn grants(rt: &impl Abort, space: &mut Space, rows: &[(u32, u64, u64, Option<u64>)]) {
+        for &(tag, bytes, align, want) in rows {
+            assert!(rt; 1 <= tag && 1 <= bytes && bytes <= 1 << 40 && align <= 4096);
+            assert_eq!(rt;
+                space.grant(tag, bytes, align),
+                want,
+                "{bytes} bytes for {tag}"
+            );
+        }
+    }
+
+    fn gives_cell(rt: &impl Abort, space: &mut Space, cell: u32) {
+        assert!(rt; cell < space.cells());
+        let tag = space.tag(cell);
+        space.give(tag, CELL_SIZE * u64::from(cell), CELL_SIZE);
+        assert!(rt; cell < space.cells());
+        assert_eq!(rt; space.tag(cell), 0);
+    }
+
+    fn writes_bytes(rt: &impl Abort, space: &mut Space)
+        requires { IsMemory space.old }
+    {
+        assert!(rt; space.cells() == 12);
+        space.set_word(8, 0x0102_0304_0506_0708);
+        assert_eq!(rt; space.byte(8), 8);
+        assert_eq!(rt; space.byte(15), 1);
+        space.fill(10, 3, 0xff);
+        assert_eq!(rt; space.word(8), 0x0102_03ff_ffff_0708);
+        space.set_byte(15, 0);
+        assert_eq!(rt; space.word(8), 0x0002_03ff_ffff_0708);
+    }
+
+    #[test]
+    fn serves_the_least_run(rt: HostRuntime) -> Result<(), NoMemory> {
+        let mut space = Space::closed();
+        space.set_up(rt.alloc(), 12)?;
+        writes_bytes(&rt, &mut space);
+        grants(
+            &rt,
+            &mut space,
+            &[
+                (1, 100, 64, Some(0)),
+                (2, 64, 256, Some(256)),
+                (3, 128, 1, Some(128)),
+                (1, 600, 64, None),
+                (1, 448, 0, Some(320)),
+                (4, 1, 64, None),
+            ],
+        );
+        assert_eq!(rt; space.used_by(1), 9);
+        assert_eq!(rt; space.used_by(2), 1);
+        gives_cell(&rt, &mut space, 1);
+        gives_cell(&rt, &mut space, 3);
+        grants(
+            &rt,
+            &mut space,
+            &[(5, 64, 128, None), (5, 64, 64, Some(64))],
+        );
+        space.give_all(1);
+        grants(
+            &rt,
+            &mut space,
+            &[(6, 65, 256, Some(512)), (6, 1 << 40, 64, None)],
+        );
+        Ok(())
+    }
+
+    #[test]
+    fn makes_leaves_of_their_own(rt: HostRuntime) {
+        let mut space = Space::closed();
+        for tag in 1..=MOST_LEAVES {
+            let mut leaf = space.new_leaf().expect(&rt, "a leaf");
+            assert_eq!(rt; leaf.tag(), tag);
+            assert!(rt; !leaf.is_open());
+            leaf.open();
+            assert!(rt; leaf.is_open());
+            leaf.close();
+            assert!(rt; !leaf.is_open());
+            assert_eq!(rt; space.leaves(), tag);
+        }
+        assert!(rt; space.new_leaf().is_none());
+    }
+}

@@ -1,0 +1,87 @@
+//! Runs of cells in a table of tags, where 0 is free.
+ghost use Rattle.std.specs.Prelude.{◌≡◌, ◌≢◌, ℕ, ◌+◌, ◌≤◌, ◌<◌, ◌^◌, true, length, slice_index, map, count_by, nat_eq, cond, IfSome, IfNone};
+ghost use Rattle.space_core.specs.Cells.{taken_cells, is_aligned_cell};
+ghost use Rattle.space_core.specs.Memory.{most_cells};
+ghost use Rattle.space_core.specs.Runs.{is_free_run, first_run, put_run};
+
+use crate::CELL_SIZE;
+
+/// Whether the cell begins at a multiple of `align` bytes, or of 64 where that is more.
+fn is_aligned(cell: usize, align: usize) -> bool
+    requires { cell ≤ most_cells }
+    ensures { result ≡ is_aligned_cell align cell }
+{
+    let cell_size = CELL_SIZE as usize;
+    cell_size * cell % align.max(cell_size) == 0
+}
+
+/// The first of the next `cells` cells that is taken, or that is past the table's end.
+fn first_taken(tags: &[u32], from: usize, cells: usize) -> Option<usize>
+    requires { from + cells < 2 ^ 63 }
+    ensures none { IfNone result (is_free_run (taken_cells (record { tags = tags.now })) from cells ≡ true) }
+    ensures within { IfSome result (λ cell. (from ≤ cell) × (cell < from + cells)) }
+    ensures taken { IfSome result (λ cell. cell < length tags.now → slice_index tags.now cell ≢ 0) }
+{
+    for cell in from..from + cells {
+        if cell >= tags.len() {
+            return Some(cell);
+        }
+        if tags[cell] != 0 {
+            return Some(cell);
+        }
+    }
+    None
+}
+
+/// The least cell from which so many cells are free, and which begins at a multiple of `align` bytes, or of 64.
+///
+/// Each cell is looked at once: no run can begin at or before a cell that is taken.
+pub fn find_run(tags: &[u32], cells: usize, align: usize) -> Option<usize>
+    requires some { 1 ≤ cells }
+    requires most { cells < 2 ^ 62 }
+    requires table { length tags.now ≤ most_cells }
+    ensures first { result ≡ first_run (λ i. is_aligned_cell align i) cells 0 (taken_cells (record { tags = tags.now })) }
+    ensures within { IfSome result (λ cell. cell + cells ≤ length tags.now) }
+{
+    let mut from = 0;
+    while from < tags.len() {
+        if is_aligned(from, align) {
+            match first_taken(tags, from, cells) {
+                Some(taken) => from = taken + 1,
+                None => return Some(from),
+            }
+        } else {
+            from += 1;
+        }
+    }
+    None
+}
+
+/// Writes the value at `n` indices from `from` on.
+pub fn put_run<T: Copy>(items: &mut [T], from: usize, n: usize, value: T)
+    requires within { from + n ≤ length items.old }
+    requires fits { from + n < 2 ^ 63 }
+    ensures { items.new ≡ put_run value from n items.old }
+{
+    for index in from..from + n {
+        items[index] = value;
+    }
+}
+
+/// Frees each cell that has the tag.
+pub fn free_tag(tags: &mut [u32], tag: u32)
+    ensures { tags.new ≡ map (λ t. cond (nat_eq t tag) 0 t) tags.old }
+{
+    for t in tags.iter_mut() {
+        if *t == tag {
+            *t = 0;
+        }
+    }
+}
+
+/// How many cells have the tag.
+pub fn count(tags: &[u32], tag: u32) -> usize
+    ensures { result ≡ count_by (λ t. nat_eq t tag) tags.now }
+{
+    tags.iter().filter(|t| **t == tag).count()
+}
