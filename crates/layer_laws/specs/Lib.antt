@@ -1,0 +1,12 @@
+pub mod BlockMeanings
+pub mod Covered
+pub mod Examples
+pub mod FreeTails
+pub mod Laws
+pub mod OwnCells
+pub mod Replay
+pub mod ShapeMeanings
+pub mod Standing
+pub mod Steady
+pub mod UnitMeanings
+pub mod Unread

@@ -1,0 +1,71 @@
+//! What callers may rest on: a layer stands after each call, and blocks that are out keep apart.
+
+ghost use Rattle.layer_laws.specs.Standing.{AllocateStands, AllocateGives, AllocateKeepsOut, AllocateKeepsExtents, DeallocateStands, DeallocateKeepsOut, DeallocateKeepsExtents, WriteStands, WriteKeepsState, WriteKeepsOut, WriteKeepsClean, WriteKeepsMarked, OutIsPlaced, OutIsInSpace, ApartShareNoByte, OutIsRouted, OutIsAligned, OpenAsFields, OutIsSetUp, ShutHasNoCells, ShutStands, SetUpStands, TearDownStands, SetUpChangesOwn, TearDownChangesOwn, AllocateChangesOwn, DeallocateChangesOwn, WriteChangesOwn, ChangesInTurn, MemberChangesOwn, OthersStand, OthersKeepState, OthersKeepOut, OthersKeepBytes, OthersKeepClean, OthersKeepMarked};
+
+/// A layer that is asked for a block stands again; the new block is apart from all that were out, and these are out still.
+pub fn allocate_keeps()
+    ensures stands { AllocateStands }
+    ensures gives { AllocateGives }
+    ensures out { AllocateKeepsOut }
+    ensures extents { AllocateKeepsExtents }
+{}
+
+/// A layer that gets a block back stands again, and each block that is apart from it is out still.
+pub fn deallocate_keeps()
+    ensures stands { DeallocateStands }
+    ensures out { DeallocateKeepsOut }
+    ensures extents { DeallocateKeepsExtents }
+{}
+
+/// Who writes into a block that is out, and nowhere else, harms no layer and no other block.
+pub fn write_keeps()
+    ensures stands { WriteStands }
+    ensures state { WriteKeepsState }
+    ensures out { WriteKeepsOut }
+    ensures clean { WriteKeepsClean }
+    ensures marked { WriteKeepsMarked }
+{}
+
+/// A block that is out lies in its extent, and this in cells of the tree's leaves. Its place is aligned.
+pub fn out_is_placed()
+    ensures extent { OutIsPlaced }
+    ensures space { OutIsInSpace }
+    ensures apart { ApartShareNoByte }
+    ensures routed { OutIsRouted }
+    ensures aligned { OutIsAligned }
+    ensures open { OpenAsFields }
+    ensures set_up { OutIsSetUp }
+{}
+
+/// A closed layer stands exactly where no cell has a tag of its leaves.
+pub fn shut_has_no_cells()
+    ensures none { ShutHasNoCells }
+    ensures stands { ShutStands }
+{}
+
+/// A layer stands after it was set up, and after it was torn down.
+pub fn lifetimes()
+    ensures set_up { SetUpStands }
+    ensures tear_down { TearDownStands }
+{}
+
+/// A call changes only free cells and its own tree's, and the bytes of such cells.
+pub fn calls_change_own()
+    ensures allocate { AllocateChangesOwn }
+    ensures deallocate { DeallocateChangesOwn }
+    ensures set_up { SetUpChangesOwn }
+    ensures tear_down { TearDownChangesOwn }
+    ensures write { WriteChangesOwn }
+    ensures in_turn { ChangesInTurn }
+    ensures member { MemberChangesOwn }
+{}
+
+/// A tree with other leaves does not notice such a change.
+pub fn others_stand()
+    ensures stands { OthersStand }
+    ensures state { OthersKeepState }
+    ensures out { OthersKeepOut }
+    ensures bytes { OthersKeepBytes }
+    ensures clean { OthersKeepClean }
+    ensures marked { OthersKeepMarked }
+{}
