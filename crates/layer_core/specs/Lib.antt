@@ -1,0 +1,4 @@
+pub mod LeafShape
+pub mod LeafTree
+pub mod NullShape
+pub mod NullTree

@@ -1,0 +1,90 @@
+// The layer that serves nothing.
+ghost use Rattle.std.specs.Prelude.{◌≡◌};
+
+use crate::{Block, Fact, Layer, Offers, Refused};
+use space_core::Space;
+
+/// A layer that serves nothing: the end of a tree of layers, or of one of its branches.
+#[derive(Drop)]
+pub struct NullLayer {
+    is_set: bool,
+}
+
+impl NullLayer {
+    ghost use Rattle.layer_core.specs.NullTree.{null_tree};
+    ghost use Rattle.layer_rules.specs.Layering.{IsShut};
+    ghost use Rattle.layer_rules.specs.Shape.{null};
+
+    /// A closed null layer.
+    pub fn new() -> NullLayer
+        ensures shape { (null_tree result).shape ≡ null }
+        ensures shut { IsShut (null_tree result) }
+    {
+        NullLayer { is_set: false }
+    }
+}
+
+impl Layer for NullLayer {
+    ghost use Rattle.layer_core.specs.NullTree.{null_tree};
+    ghost use Rattle.layer_core.specs.NullShape.{null_shaped};
+
+    ghost tree = { null_tree };
+
+    fn nodes(&self) -> u32 {
+        1
+    }
+
+    fn offers(&self) -> Offers {
+        Offers {
+            owns: true,
+            expand: true,
+            aligned: true,
+            all: true,
+        }
+    }
+
+    fn alignment(&self) -> u64 {
+        65536
+    }
+
+    fn good_alloc_size(&self, n: u64) -> u64 {
+        n
+    }
+
+    fn is_open(&self) -> bool {
+        self.is_set
+    }
+
+    fn set_up(&mut self, _space: &mut Space, _need: u64) -> Result<(), Refused> {
+        self.is_set = true;
+        Ok(())
+    }
+
+    fn tear_down(&mut self, _space: &mut Space) {
+        self.is_set = false;
+    }
+
+    fn allocate(&mut self, _space: &mut Space, _n: u64) -> Option<Block> {
+        None
+    }
+
+    #[tactic(auto, unfolding(layer_rules::specs::Occupancy::is_out))]
+    fn deallocate(&mut self, _space: &mut Space, _b: Block) -> bool {
+        unreachable!()
+    }
+
+    #[tactic(auto, unfolding(layer_rules::specs::Ownership::is_routed))]
+    fn extent(&self, _b: Block) -> u64 {
+        unreachable!()
+    }
+
+    fn fact(&self, _space: &Space, _node: u32) -> Fact {
+        if self.is_set {
+            Fact::Plain
+        } else {
+            Fact::Closed
+        }
+    }
+
+    ghost shaped = { λ l. null_shaped l };
+}
