@@ -1,0 +1,2 @@
+pub mod RegionShape
+pub mod RegionTree

@@ -1,0 +1,179 @@
+// The region itself.
+ghost use Rattle.std.specs.Prelude.{◌≡◌, true, is_some};
+ghost use Rattle.layer_rules.specs.Shape.{region};
+ghost use Rattle.layer_rules.specs.Proper.{is_tree};
+ghost use Rattle.layer_rules.specs.Fields.{are_open};
+
+use crate::parent_need;
+use layer_core::{Block, Fact, Layer, Offers, Refused};
+use size_round::{LIMIT, up};
+use space_core::Space;
+
+// The chunk of an open region, and the place where its next block begins.
+#[derive(Clone, Copy, Drop)]
+pub(crate) struct Bump {
+    pub(crate) chunk: Block,
+    pub(crate) position: u64,
+}
+
+/// A layer that takes one chunk from its parent when it is set up, and hands out its bytes from
+/// front to back. Only its last block can be used again before all are.
+///
+/// Sizes are in bytes; each block takes up its length rounded up to the alignment.
+#[derive(Drop)]
+pub struct Region<P: Layer> {
+    size: u64,
+    align: u64,
+    bump: Option<Bump>,
+    parent: P,
+    ghost proper: { is_tree (region size align (P.tree parent).shape) ≡ true },
+    ghost together: { are_open (P.tree parent).fields ≡ is_some bump },
+}
+
+impl<P: Layer> Region<P> {
+    ghost use Rattle.region_block.specs.RegionTree.{region_of};
+    ghost use Rattle.layer_rules.specs.Fields.{closed_fields};
+    ghost use Rattle.layer_rules.specs.Layering.{IsShut};
+
+    /// A closed region over a closed parent. Its chunk will have at least `size` bytes, 1 to 2^30,
+    /// and its blocks begin at multiples of `align`, a power of two from 1 to 4,096 that is at
+    /// most the parent's alignment.
+    pub fn new(size: u64, align: u64, parent: P) -> Region<P>
+        requires shut { IsShut (P.tree parent) }
+        requires proper { is_tree (region size align (P.tree parent).shape) ≡ true }
+        ensures shape { (region_of P.tree result).shape ≡ region size align (P.tree parent).shape }
+        ensures shut { IsShut (region_of P.tree result) }
+    {
+        Region {
+            size,
+            align,
+            bump: None,
+            parent,
+        }
+    }
+}
+
+impl<P: Layer> Layer for Region<P> {
+    ghost use Rattle.region_block.specs.RegionTree.{region_of};
+    ghost use Rattle.region_block.specs.RegionShape.{region_shaped};
+
+    ghost tree = { region_of P.tree };
+
+    fn nodes(&self) -> u32 {
+        self.parent.nodes() + 1
+    }
+
+    fn offers(&self) -> Offers {
+        Offers {
+            owns: true,
+            expand: true,
+            aligned: true,
+            all: true,
+        }
+    }
+
+    fn alignment(&self) -> u64 {
+        self.align
+    }
+
+    fn good_alloc_size(&self, n: u64) -> u64 {
+        if n == 0 || n > LIMIT {
+            return n;
+        }
+        up(n, self.align)
+    }
+
+    fn is_open(&self) -> bool {
+        self.bump.is_some()
+    }
+
+    fn set_up(&mut self, space: &mut Space, need: u64) -> Result<(), Refused> {
+        let size = up(self.size.max(need), self.align);
+        if size > LIMIT {
+            return Err(Refused { node: 0 });
+        }
+        match self.parent.set_up(space, parent_need(need, size)) {
+            Ok(()) => {}
+            Err(refused) => {
+                return Err(Refused {
+                    node: refused.node + 1,
+                });
+            }
+        }
+        match self.parent.allocate(space, size) {
+            Some(chunk) => {
+                self.bump = Some(Bump {
+                    chunk,
+                    position: chunk.place,
+                });
+                Ok(())
+            }
+            None => {
+                self.parent.tear_down(space);
+                Err(Refused { node: 0 })
+            }
+        }
+    }
+
+    fn tear_down(&mut self, space: &mut Space) {
+        self.parent.tear_down(space);
+        self.bump = None;
+    }
+
+    fn allocate(&mut self, _space: &mut Space, n: u64) -> Option<Block> {
+        if n == 0 || n > LIMIT {
+            return None;
+        }
+        match self.bump {
+            Some(bump) => {
+                let taken = up(n, self.align);
+                if bump.position + taken > bump.chunk.place + bump.chunk.len {
+                    return None;
+                }
+                self.bump = Some(Bump {
+                    chunk: bump.chunk,
+                    position: bump.position + taken,
+                });
+                Some(Block {
+                    place: bump.position,
+                    len: n,
+                })
+            }
+            None => unreachable!(),
+        }
+    }
+
+    fn deallocate(&mut self, _space: &mut Space, b: Block) -> bool {
+        match self.bump {
+            Some(bump) => {
+                if b.place + up(b.len, self.align) != bump.position {
+                    return false;
+                }
+                self.bump = Some(Bump {
+                    chunk: bump.chunk,
+                    position: b.place,
+                });
+                true
+            }
+            None => unreachable!(),
+        }
+    }
+
+    fn extent(&self, b: Block) -> u64 {
+        up(b.len, self.align)
+    }
+
+    fn fact(&self, space: &Space, node: u32) -> Fact {
+        if node > 0 {
+            return self.parent.fact(space, node - 1);
+        }
+        match self.bump {
+            Some(bump) => Fact::Region {
+                room: bump.chunk.place + bump.chunk.len - bump.position,
+            },
+            None => Fact::Closed,
+        }
+    }
+
+    ghost shaped = { λ l. region_shaped P.shaped l };
+}
