@@ -1,0 +1,3 @@
+pub mod LeafForms
+pub mod LevelForms
+pub mod HalfForms
