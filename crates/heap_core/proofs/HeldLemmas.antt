@@ -1,0 +1,69 @@
+-- What a held heap's run is, and the numbers of its live blocks.
+use Rattle.std.proofs.Common.{◌≡◌, refl, sym, ap, ◌∙◌, ℕ, ◌+◌, ◌≤◌, true, List, [], ◌∷◌, arith}
+use Rattle.std.specs.List.{sum_by}
+use Rattle.std.proofs.lemmas.List.Sums.{sum_by-cons}
+use Rattle.size_round.specs.Sizes.{limit}
+use Rattle.space_core.specs.Memory.{Memory}
+use Rattle.layer_rules.specs.declared.Block.{Block}
+use Rattle.layer_rules.specs.Blocks.{is_apart}
+use Rattle.layer_rules.specs.Rows.{EachPair}
+use Rattle.layer_rules.specs.Ownership.{extent}
+use Rattle.layer_rules.specs.Layering.{Tree, kept_state, Stands, IsOutOf, AreApart, IsRoutedIn}
+use Rattle.layer_laws.specs.Covered.{IsLayer}
+use Rattle.layer_laws.specs.Standing.{extent_of}
+use Rattle.layer_laws.proofs.AfterCalls.{opens-as_fields}
+use Rattle.layer_laws.proofs.Writes.{out-placed}
+use Rattle.layer_laws.proofs.Routing.{out-routed}
+use Rattle.layer_laws.proofs.WithoutBytes.{extent-bytes}
+use Rattle.heap_core.specs.declared.Named.{Named}
+use Rattle.heap_core.specs.World.{Live, live}
+use Rattle.heap_core.specs.Holding.{bytes_of, world_of}
+use Rattle.heap_core.specs.Heap.{extent_len}
+use Rattle.heap_core.specs.Steps.{HeldRun, HeldMeasured, ExtentsInRun, AskedInRun}
+use Rattle.heap_core.proofs.WorldLemmas.{each-from, each-world, each_pair-from}
+
+each_pair-world : (R : Block → Block → Type 0) (table : List Named) (bytes : List ℕ) → EachPair (λ (x y : Named). R x.block y.block) table → EachPair (λ (x y : Live). R x.block y.block) (world_of table bytes)
+each_pair-world R [] bytes h = tt
+each_pair-world R (x ∷ table) bytes h = (each-world (R x.block) table bytes h.0, each_pair-world R table bytes h.1)
+
+pub held-run : HeldRun
+held-run t table m h = record {
+  proper = h.layer.proper;
+  covered = h.layer.covered;
+  opened = opens-as_fields t m ∙ h.opened;
+  sound = h.stands.sound;
+  size = refl;
+  out = each-world (IsOutOf t m) table m.bytes h.out;
+  apart = each_pair-world (λ b c. is_apart (extent_of t m b) (extent_of t m c) ≡ true) table m.bytes
+      (each_pair-from (λ (x y : Named). AreApart t m x.block y.block) (λ (x y : Named). is_apart (extent_of t m x.block) (extent_of t m y.block) ≡ true) table (λ x y a. a.either) h.apart);
+}
+
+-- the extent is read without the bytes
+kept-extent : (t : Tree) (m : Memory) (b : Block) → extent t.shape b (kept_state t) ≡ extent_of t m b
+kept-extent t m b = extent-bytes t.shape b t.fields [] m.bytes
+
+extent-short : (t : Tree) (m : Memory) (b : Block) → IsLayer t → Stands t m → IsOutOf t m b → (extent t.shape b (kept_state t)).len ≤ limit
+extent-short t m b l h o =
+    let e = ap (λ (x : Block). x.len) (kept-extent t m b) in
+    let p = out-placed t m b l h o in
+    omega (arith, e, p.room, h.memory.sizes, h.memory.cells)
+
+pub held-measured : HeldMeasured
+held-measured t table m h = record {
+  routed = each-from (λ (x : Named). IsOutOf t m x.block) (λ (x : Named). IsRoutedIn t x.block) table (λ x o. out-routed t m x.block h.layer h.stands o) h.out;
+  short = each-from (λ (x : Named). IsOutOf t m x.block) (λ (x : Named). extent_len t x ≤ limit) table (λ x o. extent-short t m x.block h.layer h.stands o) h.out;
+}
+
+-- a sum over a table is the same sum over its world
+sum-world : (f : Named → ℕ) (g : Block → ℕ) (table : List Named) (bytes : List ℕ) → ((x : Named) → f x ≡ g x.block) → sum_by f table ≡ sum_by (λ (x : Live). g x.block) (world_of table bytes)
+sum-world f g [] bytes h = refl
+sum-world f g (x ∷ table) bytes h =
+    let rest = sum-world f g table bytes h in
+    let w = world_of table bytes in
+    sum_by-cons f x table ∙ (ap (λ n. n + sum_by f table) (h x) ∙ (ap (λ n. g x.block + n) rest ∙ sym (sum_by-cons (λ (y : Live). g y.block) (live x.name x.block (bytes_of x.block bytes)) w)))
+
+pub extents-in_run : ExtentsInRun
+extents-in_run t table m = sum-world (extent_len t) (λ b. (extent_of t m b).len) table m.bytes (λ x. ap (λ (b : Block). b.len) (kept-extent t m x.block))
+
+pub asked-in_run : AskedInRun
+asked-in_run t table m = sum-world (λ x. x.block.len) (λ b. b.len) table m.bytes (λ x. refl)

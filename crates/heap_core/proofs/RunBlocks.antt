@@ -1,0 +1,80 @@
+-- Where the live blocks of a run lie.
+use Rattle.std.proofs.Common.{◌≡◌, ◌≢◌, refl, subst, ℕ, ◌*◌, ◌%◌, ◌≤◌, Bool, true, false, nat_eq, if◌then◌else◌, [], ◌∷◌, Option, Some, arith}
+use Rattle.std.proofs.lemmas.Bool.Decides.{nat_tests}
+use Rattle.space_core.specs.Cells.{cell_size}
+use Rattle.layer_rules.specs.Blocks.{end_of, lies_in, is_apart}
+use Rattle.layer_rules.specs.Rows.{Each, EachPair}
+use Rattle.layer_rules.specs.Offering.{alignment}
+use Rattle.layer_rules.specs.Ownership.{extent}
+use Rattle.layer_rules.specs.Occupancy.{is_out}
+use Rattle.layer_rules.specs.Shape.{Shape}
+use Rattle.layer_laws.proofs.Basics.{and-fst}
+use Rattle.layer_laws.proofs.Wellness.{IsWell}
+use Rattle.layer_laws.proofs.Properness.{well-from}
+use Rattle.layer_laws.proofs.Covering.{covers}
+use Rattle.layer_laws.proofs.Aligned.{aligned, mod-of_multiple}
+use Rattle.layer_laws.proofs.Tags.{out-in_range}
+use Rattle.heap_core.specs.World.{World, Live, live_at}
+use Rattle.heap_core.specs.Performing.{Run}
+use Rattle.heap_core.specs.Steps.{IsHeldRun}
+use Rattle.heap_core.specs.RunFacts.{RunHasBlocks, NamesShareNoByte}
+use Rattle.heap_core.proofs.ByteLemmas.{inner-apart, apart-flip}
+use Rattle.heap_core.proofs.OutSome.{out-some}
+use Rattle.heap_core.proofs.WorldLemmas.{each-from, each-both, each-live_other}
+
+-- what two blocks of which P holds make of R
+pub each_pair-under : (P : Live → Type 0) (R S : Live → Live → Type 0) (w : World) → ((x y : Live) → P x → P y → R x y → S x y) → Each P w → EachPair R w → EachPair S w
+each_pair-under P R S [] f h k = tt
+each_pair-under P R S (x ∷ w) f h k = (each-both P (R x) (S x) w (λ y p r. f x y h.0 p r) h.1 k.0, each_pair-under P R S w f h.1 k.1)
+
+module _ (e : Shape) (count leaves : ℕ) (r : Run) (h : IsHeldRun e count leaves r) where
+  well : IsWell e
+  well = well-from e (and-fst _ _ h.proper) h.sound.distinct h.sound.made.least h.covered
+
+  abbrev Out : Live → Type 0
+  Out x = is_out e x.block r.state r.cells ≡ true
+
+  in-extent : (x : Live) → Out x → lies_in x.block (extent e x.block r.state) ≡ true
+  in-extent x o =
+      let c = covers e well x.block r.state r.cells h.sound.settled o in
+      let from = c.from in
+      let upto = c.upto in
+      grind (arith, nat_tests)
+
+  in-area : (x : Live) → Out x → end_of x.block ≤ cell_size * count
+  in-area x o = let l = out-in_range e well x.block r.state r.cells h.sound.settled o in omega (arith, l, h.size)
+
+  at-multiple : (x : Live) → Out x → x.block.place % alignment e ≡ 0
+  at-multiple x o = mod-of_multiple x.block.place (alignment e) (aligned e (and-fst _ _ h.proper) well x.block r.state r.cells h.sound.settled o)
+
+  share-none : (x y : Live) → Out x → Out y → is_apart (extent e x.block r.state) (extent e y.block r.state) ≡ true → is_apart x.block y.block ≡ true
+  share-none x y o p a = inner-apart x.block y.block (extent e x.block r.state) (extent e y.block r.state) (in-extent x o) (in-extent y p) a
+
+pub run-has_blocks : RunHasBlocks
+run-has_blocks e count leaves r h =
+    let out : Live → Type 0 = λ x. is_out e x.block r.state r.cells ≡ true in
+    record {
+      some = each-from out (λ (x : Live). 1 ≤ x.block.len) r.world (λ x o. out-some e x.block r.state r.cells o) h.out;
+      inside = each-from out (λ (x : Live). end_of x.block ≤ cell_size * count) r.world (in-area e count leaves r h) h.out;
+      aligned = each-from out (λ (x : Live). x.block.place % alignment e ≡ 0) r.world (at-multiple e count leaves r h) h.out;
+      apart = each_pair-under out (λ (x y : Live). is_apart (extent e x.block r.state) (extent e y.block r.state) ≡ true) (λ (x y : Live). is_apart x.block y.block ≡ true) r.world
+          (share-none e count leaves r h) h.out h.apart;
+    }
+
+-- ---- by names
+
+-- what is live under a name is one of the world, and has the name
+found-by : (P : Live → Type 0) (x : Live) (rest : Option Live) (name : ℕ) (y : Live) (t : Bool) → nat_eq x.name name ≡ t → P x → (rest ≡ Some y → P y × (y.name ≡ name)) → (if t then Some x else rest) ≡ Some y → P y × (y.name ≡ name)
+found-by P x rest name y true q p h e = let same : x ≡ y = cc in subst (λ (z : Live). P z × (z.name ≡ name)) same (p, grind (arith, nat_tests))
+found-by P x rest name y false q p h e = h e
+
+pub each-found : (P : Live → Type 0) (w : World) (name : ℕ) (y : Live) → Each P w → live_at w name ≡ Some y → P y × (y.name ≡ name)
+each-found P [] name y h e = absurd (cc)
+each-found P (x ∷ w) name y h e = found-by P x (live_at w name) name y (nat_eq x.name name) refl h.0 (each-found P w name y h.1) e
+
+pub names-share_no_byte : NamesShareNoByte
+names-share_no_byte e count leaves r h name other x y ne q p =
+    let apart = (run-has_blocks e count leaves r h).apart in
+    let others = each-live_other (λ b c. is_apart b c ≡ true) apart-flip r.world name x apart q in
+    let found = each-found (λ (z : Live). z.name ≢ name → is_apart x.block z.block ≡ true) r.world other y others p in
+    found.0 (λ (n : y.name ≡ name). let same = found.1 in ne (cc))

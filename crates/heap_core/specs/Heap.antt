@@ -1,0 +1,56 @@
+-- Heap: what contracts see of a heap, and what making one and a call on it do.
+use Rattle.std.specs.Prelude.{ℕ, ◌≡◌, ◌≤◌, List, [], length, Result, Ok, Err, IfOk, OnErr}
+use Rattle.space_core.specs.Memory.{Memory}
+use Rattle.size_round.specs.Sizes.{limit}
+use Rattle.layer_rules.specs.Rows.{Each}
+use Rattle.layer_rules.specs.Offering.{alignment}
+use Rattle.layer_rules.specs.Ownership.{extent}
+use Rattle.layer_rules.specs.After.{Opening}
+use Rattle.layer_rules.specs.Layering.{Tree, kept_state, IsRoutedIn}
+use Rattle.heap_core.specs.declared.Named.{Named}
+use Rattle.heap_core.specs.declared.Call.{Call}
+use Rattle.heap_core.specs.declared.Answer.{Answer}
+use Rattle.heap_core.specs.declared.CallFault.{CallFault}
+use Rattle.heap_core.specs.declared.heap.Heap.{Heap}
+use Rattle.heap_core.specs.declared.heap.MakeFault.{MakeFault}
+use Rattle.heap_core.specs.declared.heap.MakeFault.TheVariants.{NoMemory, Refused}
+use Rattle.heap_core.specs.Performing.{Run, run_of, performed, IsAnswerTo}
+use Rattle.heap_core.specs.Moves.{Moves}
+use Rattle.heap_core.specs.Holding.{world_of, run_in, Held}
+
+-- what contracts see of the root
+abbrev pub heap_tree : {L : Type 0} → (L → Tree) → Heap L → Tree
+heap_tree tree heap = tree heap.root
+
+-- the live blocks in order of their names
+abbrev pub heap_table : {L : Type 0} → Heap L → List Named
+heap_table heap = heap.table
+
+-- the run that begins, by what opening the root gives
+abbrev pub Begins : Opening → Run → Type 0
+Begins (Ok o) run = run ≡ run_of o.state o.cells []
+Begins (Err node) run = ⊥
+
+-- why no heap is made: the process has no memory for its table, or opening refuses
+abbrev pub IsMakeFault : MakeFault → Opening → (old new : Memory) → Type 0
+IsMakeFault NoMemory opening old new = new ≡ old
+IsMakeFault (Refused node) (Err refused) old new = (node ≡ refused) × (new.cells ≡ old.cells)
+IsMakeFault (Refused node) (Ok o) old new = ⊥
+
+-- What a call does: the rule's answer and run; the heap is held again; a fault changes nothing.
+pub record Performs (t t' : Tree) (table table' : List Named) (m m' : Memory) (call : Call) (r : Result Answer CallFault) : Type 0 where
+  pub after : (r, run_in t' table' m') ≡ performed t.shape call (run_in t table m)
+  pub held : Held t' table' m'
+  pub kind : IfOk r (IsAnswerTo call)
+  pub fault : OnErr r ((run_in t' table' m' ≡ run_in t table m) × (m' ≡ m))
+  pub moves : IfOk r (λ answer. Moves (alignment t.shape) (length m.cells.tags) (world_of table m.bytes) call answer (world_of table' m'.bytes))
+  pub shape : t'.shape ≡ t.shape
+
+-- how many bytes a block takes up where its route ends
+abbrev pub extent_len : Tree → Named → ℕ
+extent_len t x = (extent t.shape x.block (kept_state t)).len
+
+-- each live block is routed, and takes up no more than a layer serves
+pub record AreMeasured (t : Tree) (table : List Named) : Type 0 where
+  pub routed : Each (λ (x : Named). IsRoutedIn t x.block) table
+  pub short : Each (λ (x : Named). extent_len t x ≤ limit) table

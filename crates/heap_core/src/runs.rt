@@ -1,0 +1,25 @@
+//! What holds of every run of calls, by one step. Each law is a clause of a function that does nothing.
+
+ghost use Rattle.heap_core.specs.RunFacts.{RunBegins, RunGoesOn, HeldIsRun, ZerosStay, RunHasBlocks, NamesShareNoByte, FaultKeepsRun, NullExactly, PlacedElse};
+
+/// A run begins with no block, and is a run after each call: the root is open and sound, the table
+/// of cells keeps its length, and the names of the live blocks rise. What a heap holds is a run.
+pub fn runs_go_on()
+    ensures begins { RunBegins }
+    ensures goes_on { RunGoesOn }
+    ensures held { HeldIsRun }
+    ensures zeros { ZerosStay }
+{}
+
+/// The live blocks of a run have bytes in the area, at aligned places, and share none.
+pub fn live_blocks_are_apart()
+    ensures blocks { RunHasBlocks }
+    ensures names { NamesShareNoByte }
+{}
+
+/// A call in fault changes nothing; a new block is refused exactly where the rules refuse it.
+pub fn answers_are_exact()
+    ensures fault { FaultKeepsRun }
+    ensures null { NullExactly }
+    ensures placed { PlacedElse }
+{}
