@@ -1,0 +1,114 @@
+// What no clause says: that the calls succeed, and how they fare over a reader and a writer that fail in mid-stream.
+ghost use Rattle.std.specs.Prelude.{◌≡◌, ◌<◌, false, length};
+
+use crate::{Failed, Sink, Source, StdSink, StdSource, StillSink, StillSource};
+use space_core::Space;
+use std::io;
+use std::io::{ErrorKind, Read, Write};
+use std::test::Fail;
+
+// Gives `abc`, fails once, gives `abc` again, and then nothing more.
+#[derive(Drop)]
+struct TornReader {
+    calls: u32,
+}
+
+impl Read for TornReader {
+    fn read(&mut self, into: &mut [u8]) -> io::Result<usize> {
+        let call = self.calls;
+        self.calls = call.saturating_add(1);
+        match call {
+            0 | 2 => {
+                let count = into.len().min(3);
+                into[..count].copy_from_slice(&b"abc"[..count]);
+                Ok(count)
+            }
+            1 => Err(io::Error::from(ErrorKind::TimedOut)),
+            _ => Ok(0),
+        }
+    }
+}
+
+// Takes two bytes, fails once, takes none once, and then takes all.
+#[derive(Drop)]
+struct TornWriter {
+    calls: u32,
+}
+
+impl Write for TornWriter {
+    fn write(&mut self, piece: &[u8]) -> io::Result<usize> {
+        let call = self.calls;
+        self.calls = call.saturating_add(1);
+        match call {
+            0 => Ok(piece.len().min(2)),
+            1 => Err(io::Error::from(ErrorKind::TimedOut)),
+            2 => Ok(0),
+            _ => Ok(piece.len()),
+        }
+    }
+
+    fn flush(&mut self) -> io::Result<()> {
+        Ok(())
+    }
+}
+
+// One call through the bound.
+fn take_from<S: Source>(source: &mut S, into: &mut [u8]) -> Result<usize, Failed>
+    requires room { 0 < length into.old }
+    requires opened { S.finished source.old ≡ false }
+{
+    source.take(into)
+}
+
+fn put_into<K: Sink>(sink: &mut K, piece: &[u8], space: &Space) -> Result<usize, Failed>
+    requires { 0 < length piece.now }
+{
+    sink.put(piece, space)
+}
+
+#[test]
+fn a_reader_that_fails_is_a_fault_and_no_end(rt: HostRuntime) -> Result<(), Fail> {
+    let mut into = [0; 8];
+    let mut source = StdSource::new(TornReader { calls: 0 });
+    let Ok(count) = source.take(&mut into) else {
+        panic!(rt; "the first read failed");
+    };
+    assert!(rt; count == 3);
+    assert_eq!(rt; &into[..3], b"abc".as_slice());
+    assert_eq!(rt; take_from(&mut source, &mut into), Err(Failed));
+    let mut ended = StdSource::new(TornReader { calls: 3 });
+    assert_eq!(rt; take_from(&mut ended, &mut into), Ok(0));
+    Ok(())
+}
+
+#[test]
+fn a_writer_that_fails_or_takes_nothing_is_a_fault(rt: HostRuntime) -> Result<(), Fail> {
+    let space = Space::closed();
+    let mut sink = StdSink::new(TornWriter { calls: 0 });
+    for want in [Ok(2), Err(Failed), Err(Failed), Ok(5)] {
+        assert_eq!(rt; put_into(&mut sink, b"heaps", &space), want);
+    }
+    Ok(())
+}
+
+#[test]
+fn what_is_in_memory_comes_and_goes_whole(rt: HostRuntime) -> Result<(), Fail> {
+    let space = Space::closed();
+    let mut source = StillSource::new(Vec::from_slice(rt.alloc(), b"abcde")?);
+    let mut into = [0; 3];
+    assert_eq!(rt; take_from(&mut source, &mut into), Ok(3));
+    assert_eq!(rt; &into, b"abc");
+    let Ok(mut sink) = StillSink::new(rt.alloc(), 4) else {
+        panic!(rt; "no memory");
+    };
+    for (piece, want) in [(b"abc", Ok(3)), (b"def", Err(Failed))] {
+        assert_eq!(rt; put_into(&mut sink, piece, &space), want);
+    }
+    assert_eq!(rt; put_into(&mut sink, b"d", &space), Ok(1));
+    assert_eq!(rt; sink.bytes(), b"abcd".as_slice());
+    assert_eq!(rt;
+        format!(in rt.alloc(); "{Failed}")?.as_str(),
+        "the device failed"
+    );
+    Ok(())
+}
