@@ -1,0 +1,4 @@
+pub mod Grammar
+pub mod Text
+pub mod Canonical
+pub mod Reading
