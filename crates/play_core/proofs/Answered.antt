@@ -1,0 +1,57 @@
+-- Answers to lines, and what is told after them.
+use Rattle.std.proofs.Common.{◌≡◌, ℕ, ◌+◌, List, [], ◌∷◌, ◌++◌, length, Option, Some, None, refl, ap, ◌∙◌, arith, length-append}
+use Rattle.std.specs.Option.{option_map}
+use Rattle.layer_rules.specs.Shape.{Shape}
+use Rattle.heap_core.specs.Performing.{Run}
+use Rattle.play_core.specs.Lines.{joined}
+use Rattle.play_core.specs.Outcome.{Outcome, Answers, Stops, outcome}
+use Rattle.play_core.specs.Told.{Told, Piece, answer_piece, told_on, told_from, after, answers_on, answers_from}
+
+mapped : {A B : Type 0} (f : A → B) (o : Option A) (y : B) → option_map f o ≡ Some y → (x : A) × (o ≡ Some x) × (f x ≡ y)
+mapped f None y h = absurd cc
+mapped f (Some x) y h = (x, refl, cc)
+
+some_same : {A : Type 0} {x y : A} → Some x ≡ Some y → x ≡ y
+some_same h = cc
+
+told_here : (e : Shape) (s t : Run) (n m b c : ℕ) (more : List (List ℕ)) → s ≡ t → m ≡ n → c ≡ b → told_from e n b s more ≡ after [] (told_from e m c t more)
+told_here e s t n m b c more i f g = rw (f, g, ← i) refl
+
+on_answers : (o : Outcome) (answers : Run → Option (List Piece × Run)) (rest : Run → Told) (end : Told) (n : ℕ) (s t : Run) → ((next : Run) (ps : List Piece) → answers next ≡ Some (ps, t) → rest next ≡ after ps end) → (pieces : List Piece) → answers_on o answers ≡ Some (pieces, t) → told_on n s o rest ≡ after pieces end
+on_answers (Stops fault) answers rest end n s t ih pieces h = absurd cc
+on_answers (Answers call answer next) answers rest end n s t ih pieces h =
+    let q = mapped _ (answers next) (pieces, t) h in
+    let p : answer_piece call answer next ∷ q.0.0 ≡ pieces = ap (λ (x : List Piece × Run). x.0) q.2 in
+    let r : q.0.1 ≡ t = ap (λ (x : List Piece × Run). x.1) q.2 in
+    let e : answers next ≡ Some (q.0.0, t) = q.1 ∙ ap (λ u. Some (q.0.0, u)) r in
+    ap (after (answer_piece call answer next ∷ [])) (ih next q.0.0 e) ∙ ap (λ ps. after ps end) p
+
+-- what lines are told, by their answers
+pub told_answers : (e : Shape) (lines more : List (List ℕ)) (n b m c : ℕ) (s t : Run) (pieces : List Piece) → answers_from e b s lines ≡ Some (pieces, t) → m ≡ n + length lines → c ≡ b + length (joined lines) → told_from e n b s (lines ++ more) ≡ after pieces (told_from e m c t more)
+told_answers e [] more n b m c s t pieces h i f =
+    let k : s ≡ t = ap (λ (x : List Piece × Run). x.1) (some_same h) in
+    let ps : [] ≡ pieces = ap (λ (x : List Piece × Run). x.0) (some_same h) in
+    told_here e s t n m b c more k (omega arith) (omega arith) ∙ ap (λ qs. after qs (told_from e m c t more)) ps
+told_answers e (line ∷ lines) more n b m c s t pieces h i f =
+    on_answers (outcome e b s line) (λ next. answers_from e (b + length line) next lines) (λ next. told_from e (n + 1) (b + length line) next (lines ++ more)) (told_from e m c t more) n s t
+    (λ next ps k. told_answers e lines more (n + 1) (b + length line) m c next t ps k (omega arith) (omega (arith, length-append line (joined lines)))) pieces h
+
+on_append : (o : Outcome) (first both : Run → Option (List Piece × Run)) (x y : List Piece) (t u : Run) → ((next : Run) (ps : List Piece) → first next ≡ Some (ps, t) → both next ≡ Some (ps ++ y, u)) → answers_on o first ≡ Some (x, t) → answers_on o both ≡ Some (x ++ y, u)
+on_append (Stops fault) first both x y t u ih h = absurd cc
+on_append (Answers call answer next) first both x y t u ih h =
+    let q = mapped _ (first next) (x, t) h in
+    let p : answer_piece call answer next ∷ q.0.0 ≡ x = ap (λ (z : List Piece × Run). z.0) q.2 in
+    let r : q.0.1 ≡ t = ap (λ (z : List Piece × Run). z.1) q.2 in
+    let e : first next ≡ Some (q.0.0, t) = q.1 ∙ ap (λ v. Some (q.0.0, v)) r in
+    ap (option_map (λ (z : List Piece × Run). (answer_piece call answer next ∷ z.0, z.1))) (ih next q.0.0 e) ∙ ap (λ ps. Some (ps ++ y, u)) p
+
+-- the answers to more lines
+pub answers_append : (e : Shape) (ls ms : List (List ℕ)) (b c : ℕ) (s t u : Run) (x y : List Piece) → answers_from e b s ls ≡ Some (x, t) → answers_from e c t ms ≡ Some (y, u) → c ≡ b + length (joined ls) → answers_from e b s (ls ++ ms) ≡ Some (x ++ y, u)
+answers_append e [] ms b c s t u x y h k i =
+    let r : s ≡ t = ap (λ (z : List Piece × Run). z.1) (some_same h) in
+    let ps : [] ≡ x = ap (λ (z : List Piece × Run). z.0) (some_same h) in
+    let f : b ≡ c = omega arith in
+    ap (λ v. answers_from e b v ms) r ∙ ap (λ n. answers_from e n t ms) f ∙ k ∙ ap (λ qs. Some (qs ++ y, u)) ps
+answers_append e (l ∷ ls) ms b c s t u x y h k i =
+    on_append (outcome e b s l) (λ next. answers_from e (b + length l) next ls) (λ next. answers_from e (b + length l) next (ls ++ ms)) x y t u
+    (λ next ps g. answers_append e ls ms (b + length l) c next t u ps y g k (omega (arith, length-append l (joined ls)))) h

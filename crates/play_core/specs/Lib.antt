@@ -1,0 +1,14 @@
+pub mod Codes
+pub mod Command
+pub mod Devices
+pub mod Ends
+pub mod Lines
+pub mod Outcome
+pub mod Place
+pub mod Ran
+pub mod ReportText
+pub mod Runs
+pub mod Telling
+pub mod Told
+pub mod WholeRuns
+pub mod WorkedRows

@@ -1,0 +1,55 @@
+-- Report text: the lines that tell, at the end of a trace, what stands.
+use Rattle.std.specs.Prelude.{ℕ, ◌+◌, ◌-◌, List, [], ◌∷◌, ◌++◌, Option, Some, None, length, sum_by, nat_eq, codes, if◌then◌else◌}
+use Rattle.std.specs.Fmt.{decimal}
+use Rattle.layer_rules.specs.declared.Fact.{Fact}
+use Rattle.layer_rules.specs.declared.Fact.TheVariants as said
+use Rattle.layer_rules.specs.Facts.{facts}
+use Rattle.layer_rules.specs.Ownership.{extent}
+use Rattle.layer_rules.specs.Shape.{Shape}
+use Rattle.heap_core.specs.Performing.{Run}
+
+-- a word, a space, a number and a newline
+abbrev pub total_line : (word : List ℕ) (number : ℕ) → List ℕ
+total_line word number = word ++ 32 ∷ decimal number ++ 10 ∷ []
+
+-- an open region: the bytes behind its last block, all in one run
+abbrev pub region_line : (node room : ℕ) → List ℕ
+region_line node room =
+    codes "node " ++ decimal node ++ codes " region room " ++ decimal room ++ codes " longest " ++ decimal room ++ 10 ∷ []
+
+-- a leaf: how many cells have its tag
+abbrev pub cells_line : (node count : ℕ) → List ℕ
+cells_line node count = codes "node " ++ decimal node ++ codes " mem cells " ++ decimal count ++ 10 ∷ []
+
+-- the line of a node, counted in preorder from the root as 0, where it has one
+abbrev pub fact_line : (node : ℕ) → Fact → Option (List ℕ)
+fact_line node (said.Region room) = Some (region_line node room)
+fact_line node (said.Cells count) = if nat_eq count 0 then None else Some (cells_line node count)
+fact_line node _ = None
+
+-- a line before these, where there is one
+abbrev pub and_lines : Option (List ℕ) → List (List ℕ) → List (List ℕ)
+and_lines None lines = lines
+and_lines (Some line) lines = line ∷ lines
+
+-- the lines of these facts, the first of which is that of this node
+abbrev pub node_lines : (node : ℕ) → List Fact → List (List ℕ)
+node_lines node [] = []
+node_lines node (fact ∷ facts) = and_lines (fact_line node fact) (node_lines (node + 1) facts)
+
+-- how many bytes the live blocks asked for, and how many they take up where their routes end
+abbrev pub asked_in : Run → ℕ
+asked_in run = sum_by (λ x. x.block.len) run.world
+
+abbrev pub extent_in : Shape → Run → ℕ
+extent_in shape run = sum_by (λ x. (extent shape x.block run.state).len) run.world
+
+-- the totals
+abbrev pub total_lines : Shape → Run → List (List ℕ)
+total_lines shape run =
+    total_line (codes "live") (length run.world) ∷ total_line (codes "asked") (asked_in run)
+    ∷ total_line (codes "extent") (extent_in shape run) ∷ total_line (codes "slack") (extent_in shape run - asked_in run) ∷ []
+
+-- the report
+unfoldable pub report_of : Shape → Run → List (List ℕ)
+report_of shape run = total_lines shape run ++ node_lines 0 (facts shape run.state run.cells)

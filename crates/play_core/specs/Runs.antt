@@ -1,0 +1,95 @@
+-- Runs: what a run of words did, from what is known of the source, the sink and the Space before and after it.
+use Rattle.std.specs.Prelude.{◌≡◌, ℕ, ◌⊎◌, List, [], Option, Some, None, Ok, Err, IsOk, IsErr, ⊤}
+use Rattle.space_core.specs.Memory.{Memory}
+use Rattle.layer_rules.specs.Rows.{Each}
+use Rattle.layer_rules.specs.Shape.{Shape}
+use Rattle.layer_rules.specs.Layering.{Tree}
+use Rattle.layer_rules.specs.After.{Opening}
+use Rattle.heap_core.specs.declared.Named.{Named}
+use Rattle.heap_core.specs.declared.heap.MakeFault.{MakeFault}
+use Rattle.heap_core.specs.declared.heap.MakeFault.TheVariants as faults
+use Rattle.heap_core.specs.Holding.{Held, run_in}
+use Rattle.heap_core.specs.Performing.{Run, run_of}
+use Rattle.source_sink.specs.Sinks.{Appends}
+use Rattle.play_core.specs.declared.Status.{Status}
+use Rattle.play_core.specs.declared.Status.TheVariants.{Usage, Expression, WriteFault, OpeningRefused, NoMemory}
+use Rattle.play_core.specs.Devices.{Reading, Writing, PutsAll, PutsPart}
+use Rattle.play_core.specs.Ran.{Ran}
+use Rattle.play_core.specs.Telling.{Telling, Only, Plays, usage_text, expression_text, refused_text, root_of, opening_of}
+use Rattle.play_core.specs.Told.{text_of}
+
+-- no cell of the Space is taken
+abbrev pub HasAllFree : Memory → Type 0
+HasAllFree m = Each (λ tag. tag ≡ 0) m.cells.tags
+
+-- a heap, with a root of this shape, holds in the Space what the run says
+pub record Leaves (shape : Shape) (run : Run) (m : Memory) : Type 0 where
+  pub tree : Tree
+  pub table : List Named
+  pub shape_is : tree.shape ≡ shape
+  pub held : Held tree table m
+  pub run_is : run_in tree table m ≡ run
+
+-- one text was written with this status, or the sink failed within it
+abbrev pub TextPut : Status → (text : List ℕ) (w w' : Writing) (end : Status) → Type 0
+TextPut status text w w' end = ((end ≡ status) × PutsAll w w' text) ⊎ ((end ≡ WriteFault) × PutsPart w w' text)
+
+-- one text, and nothing was read and no cell taken
+pub record SaysOnly (status : Status) (text : List ℕ) (r r' : Reading) (w w' : Writing) (m : Memory) (end : Status) : Type 0 where
+  pub put : TextPut status text w w' end
+  pub unread : r' ≡ r
+  pub free : HasAllFree m
+
+-- there was no memory, and nothing was read or written and no cell taken
+pub record GivesUp (r r' : Reading) (w w' : Writing) (m : Memory) (end : Status) : Type 0 where
+  pub status : end ≡ NoMemory
+  pub unread : r' ≡ r
+  pub unwritten : w' ≡ w
+  pub free : HasAllFree m
+
+-- the trace was run, and its last run stands
+abbrev pub Played : Shape → Run → (r r' : Reading) (w w' : Writing) → Memory → (end : Status) → Type 0
+Played shape run r r' w w' m end = (now : Run) × Leaves shape now m × Ran shape run now r r' w w' end
+
+-- by what opening the root gives
+abbrev pub Opens : Shape → Opening → (r r' : Reading) (w w' : Writing) → Memory → (end : Status) → Type 0
+Opens shape (Err node) r r' w w' m end = SaysOnly OpeningRefused (refused_text node) r r' w w' m end
+Opens shape (Ok o) r r' w w' m end = Played shape (run_of o.state o.cells []) r r' w w' m end
+
+-- what a run of the words did
+abbrev pub Runs : (cells size : Option ℕ) (r r' : Reading) (w w' : Writing) → Memory → (end : Status) → Type 0
+Runs None size r r' w w' m end = SaysOnly Usage usage_text r r' w w' m end
+Runs (Some cells) None r r' w w' m end = SaysOnly Expression expression_text r r' w w' m end
+Runs (Some cells) (Some size) r r' w w' m end = GivesUp r r' w w' m end ⊎ Opens (root_of size) (opening_of cells size) r r' w w' m end
+
+-- the status and the text are those of what is told, and the Space is left as that says
+abbrev pub IsTold : Telling → (w w' : Writing) → Memory → (end : Status) → Type 0
+IsTold (Only status text) w w' m end = (end ≡ status) × Appends w.holds w'.holds text × HasAllFree m
+IsTold (Plays shape all) w w' m end = (end ≡ all.status) × Appends w.holds w'.holds (text_of all.pieces) × Leaves shape all.run m
+
+-- no heap was made: there was no memory, or opening refuses; no cell is taken
+abbrev pub MakesNone : MakeFault → Opening → Memory → Type 0
+MakesNone faults.NoMemory opening m = HasAllFree m
+MakesNone (faults.Refused node) (Err refused) m = (node ≡ refused) × HasAllFree m
+MakesNone (faults.Refused node) (Ok o) m = ⊥
+
+-- the root is granted, or refused, where the words ask for one
+abbrev pub IsGranted : (cells size : Option ℕ) → Type 0
+IsGranted (Some cells) (Some size) = IsOk (opening_of cells size)
+IsGranted _ _ = ⊥
+
+abbrev pub IsRefused : (cells size : Option ℕ) → Type 0
+IsRefused (Some cells) (Some size) = IsErr (opening_of cells size)
+IsRefused _ _ = ⊥
+
+-- a run ends so before it reads
+abbrev pub IsEarly : Status → Type 0
+IsEarly Usage = ⊤
+IsEarly Expression = ⊤
+IsEarly OpeningRefused = ⊤
+IsEarly NoMemory = ⊤
+IsEarly _ = ⊥
+
+-- the status is this one exactly where that holds, if nothing came between
+abbrev pub IsStatusWhere : (end status : Status) (that between : Type 0) → Type 0
+IsStatusWhere end status that between = (end ≡ status → that) × (that → (between → ⊥) → end ≡ status)

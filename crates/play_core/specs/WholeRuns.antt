@@ -1,0 +1,53 @@
+-- WholeRuns: what holds along the whole run that words and an input are told.
+use Rattle.std.specs.Prelude.{ℕ, ◌≡◌, ◌⊎◌, ◌↔◌, true, List, [], ◌∷◌, Option, Some, None, ⊤}
+use Rattle.layer_rules.specs.Rows.{Each}
+use Rattle.layer_rules.specs.Shape.{Shape}
+use Rattle.layer_rules.specs.Offering.{alignment}
+use Rattle.layer_rules.specs.Refusing.{refuses}
+use Rattle.heap_core.specs.declared.Call.{Call}
+use Rattle.heap_core.specs.declared.Call.TheVariants.{Allocate, Free}
+use Rattle.heap_core.specs.declared.Answer.{Answer}
+use Rattle.heap_core.specs.declared.Answer.TheVariants.{Null}
+use Rattle.heap_core.specs.Moves.{Moves}
+use Rattle.heap_core.specs.Performing.{Run}
+use Rattle.heap_core.specs.RunFacts.{AreBlocks, IsZeroed}
+use Rattle.play_core.specs.Command.{cells_asked}
+use Rattle.play_core.specs.Told.{Piece, Exchange}
+use Rattle.play_core.specs.Telling.{Telling, Only, Plays, told_words}
+
+-- null is the answer exactly where 0 bytes are asked or the root refuses in this run
+abbrev pub IsNullExactly : Shape → Run → Call → Answer → Type 0
+IsNullExactly shape run (Allocate name size) answer = (answer ≡ Null) ↔ ((size ≡ 0) ⊎ (refuses shape size run.state run.cells ≡ true))
+IsNullExactly shape run (Free name) answer = ⊤
+
+-- From one run to the next: an answer is a step of the block machine, and any other piece changes nothing.
+abbrev pub StepsTo : Shape → (cells : ℕ) → Run → Option Exchange → Run → Type 0
+StepsTo shape cells old None new = new ≡ old
+StepsTo shape cells old (Some x) new = Moves (alignment shape) cells old.world x.call x.answer new.world × IsNullExactly shape old x.call x.answer
+
+-- so along these pieces, one after another
+abbrev pub StepsAlong : Shape → (cells : ℕ) → Run → List Piece → Type 0
+StepsAlong shape cells run [] = ⊤
+StepsAlong shape cells run (p ∷ ps) = StepsTo shape cells run p.exchange p.run × StepsAlong shape cells p.run ps
+
+-- the live blocks when a piece is put: in the area, aligned, apart, and zeros
+pub record HasBlocks (align cells : ℕ) (p : Piece) : Type 0 where
+  pub blocks : AreBlocks align cells p.run.world
+  pub zeros : IsZeroed p.run.world
+
+-- a run of the block machine, from one in which nothing is live, and the blocks at each of its pieces
+pub record IsBlockRun (shape : Shape) (cells : ℕ) (pieces : List Piece) : Type 0 where
+  pub begun : Run
+  pub empty : begun.world ≡ []
+  pub steps : StepsAlong shape cells begun pieces
+  pub blocks : Each (HasBlocks (alignment shape) cells) pieces
+
+-- what is told after a granted opening is such a run
+abbrev pub TellsBlockRun : (cells : Option ℕ) → Telling → Type 0
+TellsBlockRun cells (Only status text) = ⊤
+TellsBlockRun (Some cells) (Plays shape all) = IsBlockRun shape cells all.pieces
+TellsBlockRun None (Plays shape all) = ⊥
+
+-- so for all words and every input
+abbrev pub WholeRuns : Type 0
+WholeRuns = (words : List (List ℕ)) (input : List ℕ) → TellsBlockRun (cells_asked words) (told_words words input)

@@ -1,0 +1,140 @@
+// The report at the end of a trace: the totals, and then what each node says.
+ghost use Rattle.std.specs.Prelude.{◌≡◌, ◌≤◌, ◌+◌, ◌++◌, ◌∷◌, [], length};
+ghost use Rattle.std.specs.Option.{option_map};
+ghost use Rattle.arrayvec.specs.ArrayString.{array_string_len};
+ghost use Rattle.std.specs.Fmt.{decimal};
+ghost use Rattle.layer_rules.specs.Facts.{facts};
+ghost use Rattle.layer_rules.specs.Layering.{Stands, state_of};
+ghost use Rattle.play_core.specs.Devices.{writing};
+ghost use Rattle.play_core.specs.Ends.{run_at, shape_at, HeldAt, LinesPut};
+ghost use Rattle.play_core.specs.ReportText.{and_lines, cells_line, fact_line, node_lines, region_line, report_of, total_line, total_lines};
+
+use crate::putting::{put_all, put_lines};
+use heap_core::Heap;
+use itoa::Buffer;
+use layer_core::{Fact, Layer};
+use source_sink::{Failed, Sink};
+use space_core::Space;
+use trace_text::Line;
+
+// Appends a number in digits.
+pub(crate) fn push_number(line: &mut Line, number: u64)
+    requires { array_string_len line.old + 20 ≤ 512 }
+    ensures bytes { line.new.bytes ≡ line.old.bytes ++ decimal number }
+    ensures len { array_string_len line.new ≤ array_string_len line.old + 20 }
+{
+    let mut buffer = Buffer::new();
+    line.push_str(buffer.format(number));
+}
+
+// A word and a number.
+fn total_line(word: &str, number: u64) -> Line
+    requires { length word.now ≤ 100 }
+    ensures { result.bytes ≡ total_line word.now number }
+{
+    let mut line = Line::new();
+    line.push_str(word);
+    line.push_str(" ");
+    push_number(&mut line, number);
+    line.push_str("\n");
+    line
+}
+
+// An open region.
+fn region_line(node: u32, room: u64) -> Line
+    ensures { result.bytes ≡ region_line node room }
+{
+    let mut line = Line::new();
+    line.push_str("node ");
+    push_number(&mut line, u64::from(node));
+    line.push_str(" region room ");
+    push_number(&mut line, room);
+    line.push_str(" longest ");
+    push_number(&mut line, room);
+    line.push_str("\n");
+    line
+}
+
+// A leaf with cells.
+fn cells_line(node: u32, count: u32) -> Line
+    ensures { result.bytes ≡ cells_line node count }
+{
+    let mut line = Line::new();
+    line.push_str("node ");
+    push_number(&mut line, u64::from(node));
+    line.push_str(" mem cells ");
+    push_number(&mut line, u64::from(count));
+    line.push_str("\n");
+    line
+}
+
+// The line of a node, where it has one.
+fn fact_line(node: u32, fact: Fact) -> Option<Line>
+    ensures { option_map (λ line. line.bytes) result ≡ fact_line node fact }
+{
+    match fact {
+        Fact::Region { room } => Some(region_line(node, room)),
+        Fact::Cells { count } => {
+            if count == 0 {
+                None
+            } else {
+                Some(cells_line(node, count))
+            }
+        }
+        _ => None,
+    }
+}
+
+// Puts the line of a node, where it has one.
+fn put_node<K: Sink>(sink: &mut K, node: u32, fact: Fact, space: &Space) -> Result<(), Failed>
+    ensures { LinesPut (writing K.holds K.faults sink.old) (writing K.holds K.faults sink.new) (and_lines (fact_line node fact) []) result }
+{
+    match fact_line(node, fact) {
+        Some(line) => put_lines(sink, &[line], space),
+        None => Ok(()),
+    }
+}
+
+// Puts the lines of all nodes.
+fn put_nodes<L: Layer, K: Sink>(root: &L, space: &Space, sink: &mut K) -> Result<(), Failed>
+    requires { Stands (L.tree root.now) space.now }
+    ensures { LinesPut (writing K.holds K.faults sink.old) (writing K.holds K.faults sink.new)
+        (node_lines 0 (facts (L.tree root.now).shape (state_of (L.tree root.now) space.now) space.now.cells)) result }
+{
+    let count = root.nodes();
+    for node in 0..count {
+        put_node(sink, node, root.fact(space, node), space)?;
+    }
+    Ok(())
+}
+
+// Puts the totals.
+fn put_totals<L: Layer, K: Sink>(heap: &Heap<L>, space: &Space, sink: &mut K) -> Result<(), Failed>
+    requires { HeldAt L.tree heap.now space.now }
+    ensures { LinesPut (writing K.holds K.faults sink.old) (writing K.holds K.faults sink.new)
+        (total_lines (shape_at L.tree heap.now) (run_at L.tree heap.now space.now)) result }
+{
+    let asked = heap.asked();
+    let extent = heap.extent();
+    let lines = [
+        total_line("live", u64::from(heap.live())),
+        total_line("asked", asked),
+        total_line("extent", extent),
+        total_line("slack", extent.saturating_sub(asked)),
+    ];
+    put_lines(sink, &lines, space)
+}
+
+// Puts the report.
+pub(crate) fn put_report<L: Layer, K: Sink>(
+    heap: &Heap<L>,
+    space: &Space,
+    sink: &mut K,
+) -> Result<(), Failed>
+    requires { HeldAt L.tree heap.now space.now }
+    ensures { LinesPut (writing K.holds K.faults sink.old) (writing K.holds K.faults sink.new)
+        (report_of (shape_at L.tree heap.now) (run_at L.tree heap.now space.now)) result }
+{
+    put_totals(heap, space, sink)?;
+    put_nodes(heap.root(), space, sink)
+}
