@@ -1,0 +1,11 @@
+pub mod Powers
+pub mod TokenRows
+pub mod Descents
+pub mod Machine
+pub mod Agreeing
+pub mod Unique
+pub mod Viability
+pub mod Firsts
+pub mod Whole
+pub mod Texts
+pub mod Printed

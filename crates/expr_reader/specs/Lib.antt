@@ -1,0 +1,10 @@
+pub mod Parts
+pub mod Trees
+pub mod Tokens
+pub mod Grammar
+pub mod Flaws
+pub mod Faults
+pub mod Answers
+pub mod Canonical
+pub mod Descent
+pub mod Reader

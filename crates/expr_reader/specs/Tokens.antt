@@ -1,0 +1,76 @@
+-- The tokens of a text, each with its place. Spaces stand between tokens and mean nothing.
+use Rattle.std.specs.Prelude.{ℕ, zero, suc, ◌+◌, ◌-◌, ◌*◌, ◌^◌, Bool, ◌&&◌, ◌||◌, ◌==◌, nat_le, nat_lt, if◌then◌else◌, List, [], ◌∷◌, take, codes, Option, Some, None}
+use Rattle.std.specs.List.{prefix_len}
+use Rattle.std.specs.Str.{bytes_eq}
+use Rattle.expr_reader.specs.declared.token.Word.{Word}
+use Rattle.expr_reader.specs.declared.token.Word.TheVariants.{Null, Mem, Region, Unknown}
+use Rattle.expr_reader.specs.declared.token.Mark.{Mark}
+use Rattle.expr_reader.specs.declared.token.Mark.TheVariants.{Open, Comma, Close}
+
+-- a token's meaning; a stray is a byte that begins no token
+pub data Meaning : Type 0 where
+  word : Word → Meaning
+  number : (value : ℕ) → Meaning
+  mark : Mark → Meaning
+  stray : Meaning
+
+-- a token, and the offset of its first byte
+pub record Placed : Type 0 where
+  pub at : ℕ
+  pub meaning : Meaning
+
+abbrev pub is_letter : ℕ → Bool
+is_letter b = nat_le 97 b && nat_le b 122
+
+abbrev pub is_digit : ℕ → Bool
+is_digit b = nat_le 48 b && nat_le b 57
+
+-- what may stand in a word behind its first letter
+abbrev pub is_word_byte : ℕ → Bool
+is_word_byte b = is_letter b || is_digit b
+
+-- the number that digits stand for, read on behind one
+abbrev pub number_from : ℕ → List ℕ → ℕ
+number_from n [] = n
+number_from n (d ∷ ds) = number_from (10 * n + (d - 48)) ds
+
+abbrev pub number_of : List ℕ → ℕ
+number_of ds = number_from 0 ds
+
+-- the words of the grammar, by their letters
+abbrev pub word_of : List ℕ → Word
+word_of letters =
+    if bytes_eq letters (codes "null") then Null
+    else (if bytes_eq letters (codes "mem") then Mem
+    else (if bytes_eq letters (codes "region") then Region
+    else Unknown))
+
+-- the token that a byte begins, from the byte and what stands behind it
+abbrev pub meaning_of : ℕ → List ℕ → Meaning
+meaning_of b rest =
+    if is_letter b then word (word_of (b ∷ take (prefix_len is_word_byte rest) rest))
+    else (if is_digit b then number (number_of (b ∷ take (prefix_len is_digit rest) rest))
+    else (if b == 40 then mark Open
+    else (if b == 44 then mark Comma
+    else (if b == 41 then mark Close
+    else stray))))
+
+-- how many further bytes that token has: it is as long as can be
+abbrev pub further : ℕ → List ℕ → ℕ
+further b rest = if is_letter b then prefix_len is_word_byte rest else (if is_digit b then prefix_len is_digit rest else 0)
+
+-- the tokens from a place on, behind some bytes of a token that began before
+unfoldable pub tokens_from : (skipped at : ℕ) → List ℕ → List Placed
+tokens_from skipped at [] = []
+tokens_from (suc skipped) at (b ∷ rest) = tokens_from skipped (at + 1) rest
+tokens_from zero at (b ∷ rest) =
+    if b == 32 then tokens_from 0 (at + 1) rest
+    else record { at = at; meaning = meaning_of b rest } ∷ tokens_from (further b rest) (at + 1) rest
+
+-- the tokens of a text
+abbrev pub tokens : List ℕ → List Placed
+tokens text = tokens_from 0 0 text
+
+-- a number that a program's number holds
+abbrev pub held : ℕ → Option ℕ
+held n = if nat_lt n (2 ^ 64) then Some n else None

@@ -1,0 +1,130 @@
+//! Texts as tokens.
+
+ghost use Rattle.std.specs.Prelude.{◌≡◌, ◌+◌, ◌≤◌, ◌<◌, false, [], length, drop, map, slice_index, IfOk};
+ghost use Rattle.std.specs.List.{prefix_len};
+ghost use Rattle.expr_reader.specs.Tokens.{is_letter, is_digit, is_word_byte, number_of, word_of, meaning_of, further, tokens, held};
+ghost use Rattle.expr_reader.specs.Descent.{kind_of, seen};
+
+use crate::token::{Kind, Mark, Token, Word};
+use std::alloc::{AllocError, Global};
+
+fn is_letter(byte: u8) -> bool
+    ensures { result ≡ is_letter byte }
+{
+    byte >= b'a' && byte <= b'z'
+}
+
+fn is_digit(byte: u8) -> bool
+    ensures { result ≡ is_digit byte }
+{
+    byte >= b'0' && byte <= b'9'
+}
+
+/// How many bytes at the front may stand in a word.
+fn word_len(bytes: &[u8]) -> usize
+    ensures within { result ≤ length bytes.now }
+    ensures len { result ≡ prefix_len is_word_byte bytes.now }
+{
+    let mut len = 0;
+    while len < bytes.len() && (is_letter(bytes[len]) || is_digit(bytes[len])) {
+        len += 1;
+    }
+    len
+}
+
+/// How many digits stand at the front.
+fn digits_len(bytes: &[u8]) -> usize
+    ensures within { result ≤ length bytes.now }
+    ensures len { result ≡ prefix_len is_digit bytes.now }
+{
+    let mut len = 0;
+    while len < bytes.len() && is_digit(bytes[len]) {
+        len += 1;
+    }
+    len
+}
+
+/// The number that digits stand for, or None above 2^64 - 1.
+#[tactic(auto, using(crate::proofs::TokenRows::too_large))]
+fn number(digits: &[u8]) -> Option<u64>
+    ensures { result ≡ held (number_of digits.now) }
+{
+    let mut value: u64 = 0;
+    for digit in digits {
+        let units = u64::from(digit.saturating_sub(b'0'));
+        if value > (u64::MAX - units) / 10 {
+            return None;
+        }
+        value = 10 * value + units;
+    }
+    Some(value)
+}
+
+fn word(letters: &[u8]) -> Word
+    ensures { result ≡ word_of letters.now }
+{
+    if letters == b"null".as_slice() {
+        Word::Null
+    } else if letters == b"mem".as_slice() {
+        Word::Mem
+    } else if letters == b"region".as_slice() {
+        Word::Region
+    } else {
+        Word::Unknown
+    }
+}
+
+/// The token that the first byte begins, and how many further bytes it has.
+fn token(text: &[u8]) -> (Kind, usize)
+    requires { 0 < length text.now }
+    ensures kind { result.0 ≡ kind_of (meaning_of (slice_index text.now 0) (drop 1 text.now)) }
+    ensures len { result.1 ≡ further (slice_index text.now 0) (drop 1 text.now) }
+    ensures within { result.1 < length text.now }
+{
+    let byte = text[0];
+    let rest = &text[1..];
+    if is_letter(byte) {
+        let len = word_len(rest);
+        (Kind::Word(word(&text[..1 + len])), len)
+    } else if is_digit(byte) {
+        let len = digits_len(rest);
+        (Kind::Number(number(&text[..1 + len])), len)
+    } else {
+        (mark(byte), 0)
+    }
+}
+
+/// What a byte is that begins neither a word nor a number.
+fn mark(byte: u8) -> Kind
+    requires { (is_letter byte ≡ false) × (is_digit byte ≡ false) }
+    ensures { result ≡ kind_of (meaning_of byte []) }
+{
+    match byte {
+        b'(' => Kind::Mark(Mark::Open),
+        b',' => Kind::Mark(Mark::Comma),
+        b')' => Kind::Mark(Mark::Close),
+        _ => Kind::Stray,
+    }
+}
+
+/// The tokens of a text, in order.
+pub fn tokens(alloc: Global, text: &[u8]) -> Result<Vec<Token>, AllocError>
+    ensures { IfOk result (λ v. v.items ≡ map seen (tokens text.now)) }
+{
+    let mut found = Vec::new(alloc);
+    let mut at = 0;
+    while at < text.len() {
+        let here = &text[at..];
+        if here[0] == b' ' {
+            at += 1;
+        } else {
+            let (kind, len) = token(here);
+            found.push(Token {
+                at: at as u64,
+                kind,
+            })?;
+            at += 1 + len;
+        }
+    }
+    Ok(found)
+}

@@ -1,0 +1,150 @@
+use super::*;
+use std::test::*;
+
+/// What a text is read as: its canonical text, or its fault.
+fn shown(rt: &HostRuntime, text: &str) -> Result<String, Fail> {
+    match read(rt.alloc(), text) {
+        Ok(expr) => print(rt.alloc(), &expr).map_err(|_| "out of memory".into()),
+        Err(fault) => format!(in rt.alloc(); "{fault}").map_err(|_| "out of memory".into()),
+    }
+}
+
+#[test]
+fn texts(rt: HostRuntime) -> Result<(), Fail> {
+    let table = [
+        ("mem", "mem"),
+        ("null", "null"),
+        ("region(1024, 16, mem)", "region(1024,16,mem)"),
+        (
+            "  region ( 0001024 ,016 , region(64,32,null)  ) ",
+            "region(1024,16,region(64,32,null))",
+        ),
+        ("", "syntax at 0"),
+        ("   ", "syntax at 3"),
+        ("mem mem", "syntax at 4"),
+        ("region(64,16)", "syntax at 12"),
+        ("region(64,16,mem", "syntax at 16"),
+        ("region(64,16,mem))", "syntax at 17"),
+        ("region(64 16,mem)", "syntax at 10"),
+        ("region(64,16,Mem)", "syntax at 13"),
+        ("region(64,16,mem;", "syntax at 16"),
+        ("regions(64,16,mem)", "syntax at 0"),
+        ("kr(64,mem)", "syntax at 0"),
+        (
+            "region(18446744073709551616,16,mem)",
+            "number too large at 7",
+        ),
+        ("region(18446744073709551615,16,mem)", "bad parameter at 7"),
+        ("18446744073709551616", "syntax at 0"),
+        ("region(0,16,mem)", "bad parameter at 7"),
+        ("region(1073741824,1,mem)", "region(1073741824,1,mem)"),
+        ("region(1073741825,1,mem)", "bad parameter at 7"),
+        ("region(64,24,mem)", "bad parameter at 10"),
+        ("region(64,0,mem)", "bad parameter at 10"),
+        ("region(64,4096,null)", "region(64,4096,null)"),
+        ("region(64,8192,null)", "bad parameter at 10"),
+        ("region(64,128,mem)", "needs alignment at 14"),
+        ("region(64,16,region(64,8,mem))", "needs alignment at 13"),
+        ("region(64,8,region(64,3,mem))", "needs alignment at 12"),
+        ("region(0,16,mem", "syntax at 15"),
+    ];
+    for (text, answer) in &table {
+        let found = shown(&rt, text)?;
+        assert_eq!(rt; found.as_str(), *answer);
+    }
+    Ok(())
+}
+
+/// This piece so many times.
+fn repeated(rt: &HostRuntime, piece: &str, times: u32) -> Result<String, Fail> {
+    let mut text = String::new(rt.alloc());
+    for _ in 0..times {
+        text.push_str(piece).map_err(|_| "out of memory")?;
+    }
+    Ok(text)
+}
+
+#[test]
+fn depth(rt: HostRuntime) -> Result<(), Fail> {
+    let mut eight = repeated(&rt, "region(64,16,", 8)?;
+    eight.push_str("mem").map_err(|_| "out of memory")?;
+    eight.push_str("))))))))").map_err(|_| "out of memory")?;
+    let found = shown(&rt, &eight)?;
+    assert_eq!(rt; found.as_str(), eight.as_str());
+    let mut nine = repeated(&rt, "region(64,16,", 9)?;
+    nine.push_str("mem)))))))))").map_err(|_| "out of memory")?;
+    let found = shown(&rt, &nine)?;
+    assert_eq!(rt; found.as_str(), "too deep at 104");
+    Ok(())
+}
+
+#[test]
+fn long_texts(rt: HostRuntime) -> Result<(), Fail> {
+    let parentheses = repeated(&rt, "(", 16_000)?;
+    let found = shown(&rt, &parentheses)?;
+    assert_eq!(rt; found.as_str(), "syntax at 0");
+    let zeros = repeated(&rt, "0000000000", 100_000)?;
+    let mut text = repeated(&rt, "region(", 1)?;
+    text.push_str(&zeros).map_err(|_| "out of memory")?;
+    text.push_str("8,8,mem)").map_err(|_| "out of memory")?;
+    let found = shown(&rt, &text)?;
+    assert_eq!(rt; found.as_str(), "region(8,8,mem)");
+    Ok(())
+}
+
+/// A layer with its box.
+fn below(rt: &HostRuntime, form: Form) -> Result<Box<Expr>, Fail> {
+    Box::new(rt.alloc(), Expr { at: 0, form }).map_err(|_| "out of memory".into())
+}
+
+/// The canonical text of a form.
+fn text_of(rt: &HostRuntime, form: Form) -> Result<String, Fail> {
+    print(rt.alloc(), &Expr { at: 0, form }).map_err(|_| "out of memory".into())
+}
+
+#[test]
+fn other_forms(rt: HostRuntime) -> Result<(), Fail> {
+    let mut parts = Parts::new(rt.alloc());
+    for threshold in [8, 64] {
+        let member = Expr {
+            at: 0,
+            form: Form::Null,
+        };
+        parts
+            .add(Part { threshold, member })
+            .map_err(|_| "out of memory")?;
+    }
+    assert_eq!(rt; parts.len(), 2);
+    let last = below(&rt, Form::Mem)?;
+    let text = text_of(&rt, Form::Segregate { parts, last })?;
+    assert_eq!(rt; text.as_str(), "segregate(8,null,64,null,mem)");
+    let parent = below(&rt, Form::Mem)?;
+    let bounds = Bounds::Range { min: 16, max: 64 };
+    let text = text_of(&rt, Form::FreeList { bounds, parent })?;
+    assert_eq!(rt; text.as_str(), "freelist(16,64,mem)");
+    let parent = below(&rt, Form::Mem)?;
+    let text = text_of(
+        &rt,
+        Form::Quantize {
+            kind: RoundKind::Pow2,
+            parent,
+        },
+    )?;
+    assert_eq!(rt; text.as_str(), "quantize(pow2,mem)");
+    let primary = below(&rt, Form::Null)?;
+    let second = below(&rt, Form::Mem)?;
+    let text = text_of(&rt, Form::Fallback { primary, second })?;
+    assert_eq!(rt; text.as_str(), "fallback(null,mem)");
+    let member = below(&rt, Form::Mem)?;
+    let text = text_of(
+        &rt,
+        Form::Buckets {
+            min: 1,
+            max: 128,
+            step: 16,
+            member,
+        },
+    )?;
+    assert_eq!(rt; text.as_str(), "buckets(1,128,16,mem)");
+    Ok(())
+}
