@@ -8,3 +8,5 @@ pub mod Answers
 pub mod Canonical
 pub mod Descent
 pub mod Reader
+pub mod ShapeOf
+pub mod Sound

@@ -1,6 +1,8 @@
-//! Expressions such as `region(1024, 16, mem)`: what they are made of, how a text is read, and how one is printed.
+//! Expressions such as `region(1024, 16, mem)`: what they are made of, how a text is read, how one is printed, and which
+//! tree of layers it stands for.
 #![tactic(auto)]
 
+mod building;
 mod fault;
 mod lexing;
 mod printing;
@@ -8,6 +10,7 @@ mod reading;
 mod token;
 mod tree;
 
+pub use building::{accepted_are_trees, build};
 pub use fault::ExprFault;
 pub use printing::{canonical_is_read, print};
 pub use reading::read;

@@ -1,4 +1,8 @@
 use super::*;
+use layer_core::Layer;
+use space_core::Space;
+use std::alloc::Global;
+use std::process::Abort;
 use std::test::*;
 
 /// What a text is read as: its canonical text, or its fault.
@@ -146,5 +150,37 @@ fn other_forms(rt: HostRuntime) -> Result<(), Fail> {
         },
     )?;
     assert_eq!(rt; text.as_str(), "buckets(1,128,16,mem)");
+    Ok(())
+}
+
+/// How many nodes the tree of a text has, the alignment of its blocks in bytes, and how many leaves it takes.
+fn built(rt: &impl Abort, alloc: Global, text: &str) -> Result<[u64; 3], Fail> {
+    let mut space = Space::closed();
+    match read(alloc, text) {
+        Ok(expr) => {
+            let tree = build(alloc, &expr, &mut space).map_err(|_| "out of memory")?;
+            assert!(rt; !tree.is_open());
+            let leaves = u64::from(space.leaves());
+            Ok([u64::from(tree.nodes()), tree.alignment(), leaves])
+        }
+        Err(_) => Err("no expression".into()),
+    }
+}
+
+#[test]
+fn trees(rt: HostRuntime) -> Result<(), Fail> {
+    let table = [
+        ("null", [1, 65536, 0]),
+        ("mem", [1, 64, 1]),
+        ("region(1024,16,mem)", [2, 16, 1]),
+        ("region(64,8,region(64,32,null))", [3, 8, 0]),
+        (
+            "region(1,1,region(2,2,region(3,4,region(4,8,region(5,16,region(6,32,region(7,64,region(8,64,mem))))))))",
+            [9, 1, 1],
+        ),
+    ];
+    for (text, facts) in &table {
+        assert_eq!(rt; built(&rt, rt.alloc(), text)?, *facts);
+    }
     Ok(())
 }

@@ -1,0 +1,99 @@
+//! Building: from an expression that was accepted to a closed tree of layers.
+
+ghost use Rattle.std.specs.Prelude.{◌≡◌, ℕ, ◌+◌, ◌≤◌, List, true, IfOk};
+ghost use Rattle.space_core.specs.Memory.{most_leaves};
+ghost use Rattle.layer_rules.specs.Layering.{IsShut};
+ghost use Rattle.expr_reader.specs.Trees.{tree_of};
+ghost use Rattle.expr_reader.specs.Grammar.{depth};
+ghost use Rattle.expr_reader.specs.Answers.{IsAccepted};
+ghost use Rattle.expr_reader.specs.ShapeOf.{shape_of};
+ghost use Rattle.expr_reader.specs.Sound.{IsBuildable, leaf_count, with_leaves, AcceptedAreTrees};
+
+use crate::tree::{Expr, Form};
+use layer_core::{Layer, NullLayer};
+use over_tree::{Leaf, LowerHalf, Over, Over4, Tree};
+use region_block::Region;
+use space_core::{NoMemory, Space};
+use std::alloc::Global;
+
+/// A level of a tree that builds itself, with all below it, from an expression.
+trait Level: Layer {
+    /// How many layers it has room for on a path.
+    ghost levels: { ℕ };
+
+    /// The closed level for the expression, over the next leaf of the Space.
+    fn build(alloc: Global, expr: &Expr, space: &mut Space) -> Result<Self, NoMemory>
+        requires buildable { IsBuildable (tree_of expr.now) }
+        requires levels { depth (tree_of expr.now) ≤ levels }
+        requires leaves { space.old.leaves + 1 ≤ most_leaves }
+        ensures shape { IfOk result (λ l. (Self.tree l).shape ≡ shape_of (tree_of expr.now) space.old.leaves) }
+        ensures shut { IfOk result (λ l. IsShut (Self.tree l)) }
+        ensures space { space.new ≡ with_leaves (leaf_count (tree_of expr.now)) space.old };
+}
+
+impl Level for Leaf {
+    ghost levels = { 0 };
+
+    fn build(_alloc: Global, expr: &Expr, space: &mut Space) -> Result<Leaf, NoMemory> {
+        match &expr.form {
+            Form::Null => Ok(Leaf::Null(NullLayer::new())),
+            Form::Mem => match space.new_leaf() {
+                Some(leaf) => Ok(Leaf::Mem(leaf)),
+                None => unreachable!(),
+            },
+            // A region stands on a level above, and the grammar has no other form yet.
+            _ => unreachable!(),
+        }
+    }
+}
+
+impl<P: Level> Level for Over<P> {
+    ghost levels = { P.levels + 1 };
+
+    fn build(alloc: Global, expr: &Expr, space: &mut Space) -> Result<Over<P>, NoMemory> {
+        match &expr.form {
+            Form::Region {
+                size,
+                align,
+                parent,
+            } => {
+                let below = P::build(alloc, parent, space)?;
+                let layer = Region::new(*size, *align, below);
+                Ok(Over::Region(Box::new(alloc, layer).map_err(|_failed| NoMemory)?))
+            }
+            // The levels that are left over stand below the last region.
+            _ => Ok(Over::Pass(P::build(alloc, expr, space)?)),
+        }
+    }
+}
+
+impl Level for LowerHalf {
+    ghost levels = { 4 };
+
+    fn build(alloc: Global, expr: &Expr, space: &mut Space) -> Result<LowerHalf, NoMemory> {
+        let root = <Over4<Leaf>>::build(alloc, expr, space)?;
+        Ok(LowerHalf { root })
+    }
+}
+
+/// A closed tree that stands for the expression, over the next leaves of the Space: its `mem` leaves take the next tags in preorder.
+///
+/// # Errors
+/// `NoMemory` where the process has no memory left. The Space has made the leaves then too.
+pub fn build(alloc: Global, expr: &Expr, space: &mut Space) -> Result<Tree, NoMemory>
+    // The expression is one that `read` answers.
+    requires accepted { (text : List ℕ) × IsAccepted text (tree_of expr.now) }
+    // At most one `mem` stands in an expression.
+    requires leaves { space.old.leaves + 1 ≤ most_leaves }
+    ensures shape { IfOk result (λ t. (⟦<Tree as Layer>⟧.tree t).shape ≡ shape_of (tree_of expr.now) space.old.leaves) }
+    ensures shut { IfOk result (λ t. IsShut (⟦<Tree as Layer>⟧.tree t)) }
+    // Only the count of leaves changes, whatever is answered.
+    ensures space { space.new ≡ with_leaves (leaf_count (tree_of expr.now)) space.old }
+{
+    Tree::build(alloc, expr, space)
+}
+
+/// The shape of an expression that was accepted is proper, and within the bounds of a tree of layers.
+pub fn accepted_are_trees()
+    ensures { AcceptedAreTrees }
+{}
