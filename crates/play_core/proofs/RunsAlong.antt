@@ -178,7 +178,7 @@ opened-tells cells size (Err node) input b q = tt
 opened-tells cells size (Ok o) input b q =
     let r = run_of o.state o.cells [] in
     let along = told-along (root_of size) cells 1 0 r (lines_of input) (begins cells size o b q) in
-    record { begun = r; empty = refl; steps = along.steps; blocks = along.blocks }
+    record { opened = o; opens = q; steps = along.steps; blocks = along.blocks }
 
 sized-tells : (words : List (List ℕ)) (cells : ℕ) (s : Option ℕ) (input : List ℕ) → size_asked words ≡ s → TellsBlockRun (Some cells) (told_command (Some cells) s input)
 sized-tells words cells None input q = tt

@@ -1,19 +1,21 @@
 -- WholeRuns: what holds along the whole run that words and an input are told.
-use Rattle.std.specs.Prelude.{ℕ, ◌≡◌, ◌⊎◌, ◌↔◌, true, List, [], ◌∷◌, Option, Some, None, ⊤}
+use Rattle.std.specs.Prelude.{ℕ, ◌≡◌, ◌⊎◌, ◌↔◌, true, List, [], ◌∷◌, Option, Some, None, Ok, ⊤}
 use Rattle.layer_rules.specs.Rows.{Each}
 use Rattle.layer_rules.specs.Shape.{Shape}
 use Rattle.layer_rules.specs.Offering.{alignment}
 use Rattle.layer_rules.specs.Refusing.{refuses}
+use Rattle.layer_rules.specs.After.{Opened}
+use Rattle.layer_rules.specs.Serving.{open_tree}
 use Rattle.heap_core.specs.declared.Call.{Call}
 use Rattle.heap_core.specs.declared.Call.TheVariants.{Allocate, Free}
 use Rattle.heap_core.specs.declared.Answer.{Answer}
 use Rattle.heap_core.specs.declared.Answer.TheVariants.{Null}
 use Rattle.heap_core.specs.Moves.{Moves}
-use Rattle.heap_core.specs.Performing.{Run}
+use Rattle.heap_core.specs.Performing.{Run, run_of}
 use Rattle.heap_core.specs.RunFacts.{AreBlocks, IsZeroed}
 use Rattle.play_core.specs.Command.{cells_asked}
 use Rattle.play_core.specs.Told.{Piece, Exchange}
-use Rattle.play_core.specs.Telling.{Telling, Only, Plays, told_words}
+use Rattle.play_core.specs.Telling.{Telling, Only, Plays, told_words, free_cells}
 
 -- null is the answer exactly where 0 bytes are asked or the root refuses in this run
 abbrev pub IsNullExactly : Shape → Run → Call → Answer → Type 0
@@ -35,11 +37,11 @@ pub record HasBlocks (align cells : ℕ) (p : Piece) : Type 0 where
   pub blocks : AreBlocks align cells p.run.world
   pub zeros : IsZeroed p.run.world
 
--- a run of the block machine, from one in which nothing is live, and the blocks at each of its pieces
+-- a run of the block machine, from what opening the root gives, with nothing live, and the blocks at each of its pieces
 pub record IsBlockRun (shape : Shape) (cells : ℕ) (pieces : List Piece) : Type 0 where
-  pub begun : Run
-  pub empty : begun.world ≡ []
-  pub steps : StepsAlong shape cells begun pieces
+  pub opened : Opened
+  pub opens : open_tree shape 0 (free_cells cells) ≡ Ok opened
+  pub steps : StepsAlong shape cells (run_of opened.state opened.cells []) pieces
   pub blocks : Each (HasBlocks (alignment shape) cells) pieces
 
 -- what is told after a granted opening is such a run
