@@ -1,10 +1,12 @@
 -- An accepted tree is buildable, and the shape of a buildable tree is one that a tree of layers may have.
-use Rattle.std.proofs.Common.{◌≡◌, refl, ◌∙◌, ap, subst, ℕ, suc, ◌+◌, ◌≤◌, Bool, true, false, ◌&&◌, nat_le, List, [], drop, arith}
+use Rattle.std.proofs.Common.{◌≡◌, refl, ◌∙◌, ap, subst, ℕ, suc, ◌+◌, ◌≤◌, ◌<◌, Bool, true, false, ◌&&◌, nat_le, List, [], drop, arith}
 use Rattle.std.proofs.lemmas.Bool.Decides.{nat_tests}
 use Rattle.layer_rules.specs.Shape.{Shape, nodes}
 use Rattle.layer_rules.specs.Shape as shape
 use Rattle.layer_rules.specs.Offering.{alignment as shape_alignment}
 use Rattle.layer_rules.specs.Proper.{is_proper, is_tree, is_between, is_power_of_two, depth as shape_depth}
+use Rattle.layer_rules.specs.Leaves.{IsLeaf, HasDistinctTags}
+use Rattle.layer_laws.specs.Covered.{IsCovered}
 use Rattle.layer_laws.proofs.Basics.{and-snd}
 use Rattle.expr_reader.specs.declared.fault.ExprFault.{ExprFault}
 use Rattle.expr_reader.specs.declared.fault.ExprFault.TheVariants.{BadParameter, NeedsAlignment}
@@ -14,7 +16,7 @@ use Rattle.expr_reader.specs.Grammar.{Fits, depth}
 use Rattle.expr_reader.specs.Flaws.{alignment, is_region_size, is_region_alignment, unless, with_first, flaws, place_at}
 use Rattle.expr_reader.specs.Answers.{IsAccepted}
 use Rattle.expr_reader.specs.ShapeOf.{shape_of}
-use Rattle.expr_reader.specs.Sound.{is_sound, IsBuildable}
+use Rattle.expr_reader.specs.Sound.{is_sound, IsBuildable, leaf_count, AcceptedAreTrees}
 
 -- ---- no flaw, so each rule is kept
 
@@ -107,8 +109,75 @@ buildable-is_tree e made b =
     let s = shape_of e made in
     tree-from (is_proper s) (shape_depth s) (nodes s) m.proper (omega (arith, deep, shallow)) (omega (arith, many, shallow))
 
-pub accepted-is_tree : (text : List ℕ) (e : Tree) → IsAccepted text e → (made : ℕ) → is_tree (shape_of e made) ≡ true
-accepted-is_tree text e a made = buildable-is_tree e made (accepted-buildable text e a)
+fits-covered : (e : Tree) (made : ℕ) → Fits e → IsCovered (shape_of e made)
+fits-covered (null at) made f = tt
+fits-covered (mem at) made f = tt
+fits-covered (region at size align e) made f = fits-covered e made f.2
+fits-covered (bitmap at block count e) made f = absurd f
+fits-covered (kr at size e) made f = absurd f
+fits-covered (freelist at bounds e) made f = absurd f
+fits-covered (quantize at kind e) made f = absurd f
+fits-covered (stats at e) made f = absurd f
+fits-covered (affix at prefix suffix e) made f = absurd f
+fits-covered (segregate at es e) made f = absurd f
+fits-covered (buckets at least greatest step e) made f = absurd f
+fits-covered (fallback at p g) made f = absurd f
+fits-covered (list at count e) made f = absurd f
+
+fits-distinct : (e : Tree) (made : ℕ) → Fits e → HasDistinctTags (shape_of e made)
+fits-distinct (null at) made f = tt
+fits-distinct (mem at) made f = tt
+fits-distinct (region at size align e) made f = fits-distinct e made f.2
+fits-distinct (bitmap at block count e) made f = absurd f
+fits-distinct (kr at size e) made f = absurd f
+fits-distinct (freelist at bounds e) made f = absurd f
+fits-distinct (quantize at kind e) made f = absurd f
+fits-distinct (stats at e) made f = absurd f
+fits-distinct (affix at prefix suffix e) made f = absurd f
+fits-distinct (segregate at es e) made f = absurd f
+fits-distinct (buckets at least greatest step e) made f = absurd f
+fits-distinct (fallback at p g) made f = absurd f
+fits-distinct (list at count e) made f = absurd f
+
+-- the leaves take the next tags
+fits-next : (e : Tree) (made tag : ℕ) → Fits e → IsLeaf (shape_of e made) tag → (made < tag) × (tag ≤ made + leaf_count e)
+fits-next (null at) made tag f h = absurd h
+fits-next (mem at) made tag f h = (omega (arith, h), omega (arith, h))
+fits-next (region at size align e) made tag f h = fits-next e made tag f.2 h
+fits-next (bitmap at block count e) made tag f h = absurd f
+fits-next (kr at size e) made tag f h = absurd f
+fits-next (freelist at bounds e) made tag f h = absurd f
+fits-next (quantize at kind e) made tag f h = absurd f
+fits-next (stats at e) made tag f h = absurd f
+fits-next (affix at prefix suffix e) made tag f h = absurd f
+fits-next (segregate at es e) made tag f h = absurd f
+fits-next (buckets at least greatest step e) made tag f h = absurd f
+fits-next (fallback at p g) made tag f h = absurd f
+fits-next (list at count e) made tag f h = absurd f
+
+fits-single : (e : Tree) → Fits e → leaf_count e ≤ 1
+fits-single (null at) f = omega arith
+fits-single (mem at) f = omega arith
+fits-single (region at size align e) f = fits-single e f.2
+fits-single (bitmap at block count e) f = absurd f
+fits-single (kr at size e) f = absurd f
+fits-single (freelist at bounds e) f = absurd f
+fits-single (quantize at kind e) f = absurd f
+fits-single (stats at e) f = absurd f
+fits-single (affix at prefix suffix e) f = absurd f
+fits-single (segregate at es e) f = absurd f
+fits-single (buckets at least greatest step e) f = absurd f
+fits-single (fallback at p g) f = absurd f
+fits-single (list at count e) f = absurd f
+
+pub accepted-has_shape : AcceptedAreTrees
+accepted-has_shape text e a made = record {
+  proper = buildable-is_tree e made (accepted-buildable text e a);
+  covered = fits-covered e made a.reads.fits;
+  distinct = fits-distinct e made a.reads.fits;
+  next = λ tag h. fits-next e made tag a.reads.fits h;
+  few = omega (arith, fits-single e a.reads.fits);
+}
 
 -- a region over what stands for the tree below it is a tree of layers
 pub over-is_tree : (e : Tree) (at size align : ℕ) (below : Tree) (made : ℕ) (s : Shape) → e ≡ region at size align below → IsBuildable e → s ≡ shape_of below made

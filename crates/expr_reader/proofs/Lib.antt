@@ -1,4 +1,3 @@
-pub mod Powers
 pub mod TokenRows
 pub mod Descents
 pub mod Machine

@@ -1,5 +1,5 @@
 -- The grammar as a machine: a row of symbols that must come next, of which each token takes the first.
-use Rattle.std.proofs.Common.{◌≡◌, ℕ, suc, ◌+◌, Bool, true, false, cond, List, [], ◌∷◌, ◌++◌, Option, Some, None, Result, Ok, Err, refl, ◌∙◌, ap, arith, append_assoc}
+use Rattle.std.proofs.Common.{◌≡◌, ℕ, suc, Bool, true, false, cond, List, [], ◌∷◌, ◌++◌, Option, Some, None, Result, Ok, Err, refl, ◌∙◌, ap, append_assoc}
 use Rattle.expr_reader.specs.declared.fault.ExprFault.{ExprFault}
 use Rattle.expr_reader.specs.declared.fault.ExprFault.TheVariants.{Syntax, NumberTooLarge, TooDeep}
 use Rattle.expr_reader.specs.declared.token.Word.TheVariants.{Null, Mem, Region, Unknown}
@@ -81,14 +81,6 @@ finish end (Err f) = Some f
 
 abbrev pub never : ℕ → Bool
 never n = false
-
-closes-append : (xs ys : List Symbol) → closes (xs ++ ys) ≡ closes xs + closes ys
-closes-append [] ys = omega arith
-closes-append (tree ∷ xs) ys = closes-append xs ys
-closes-append (numeral ∷ xs) ys = closes-append xs ys
-closes-append (this Open ∷ xs) ys = closes-append xs ys
-closes-append (this Comma ∷ xs) ys = closes-append xs ys
-closes-append (this Close ∷ xs) ys = omega (arith, closes-append xs ys)
 
 same_mark-refl : (m : Mark) → same_mark m m ≡ true
 same_mark-refl Open = refl

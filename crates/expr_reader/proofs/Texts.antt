@@ -1,16 +1,17 @@
 -- Canonical texts: their tokens, and that these spell the tree.
-use Rattle.std.proofs.Common.{◌≡◌, ℕ, ◌+◌, ◌^◌, ◌<◌, ◌≤◌, Bool, true, false, eqb, List, [], ◌∷◌, ◌++◌, length, refl, sym, ◌∙◌, ap, subst, arith, rules, append_assoc, append-nil, length-append}
-use Rattle.std.specs.Prelude.{◌&&◌, ◌↔◌, codes}
+use Rattle.std.proofs.Common.{◌≡◌, ℕ, ◌+◌, ◌^◌, ◌<◌, true, false, eqb, List, [], ◌∷◌, ◌++◌, length, refl, sym, ◌∙◌, ap, subst, arith, append_assoc, append-nil, length-append}
+use Rattle.std.specs.Prelude.{◌↔◌, codes}
 use Rattle.std.specs.Fmt.{decimal}
 use Rattle.std.specs.List.{prefix_len}
-use Rattle.std.specs.Prelude.{nat_le}
-use Rattle.std.proofs.lemmas.Bool.{leb-true, lt-leb, ne_eqb}
+use Rattle.std.specs.Char.{digit_value}
+use Rattle.std.specs.Str.Parse.{AllDigits, IsNumeral, digits_value}
+use Rattle.std.proofs.lemmas.Bool.Decides.{nat_tests}
 use Rattle.std.proofs.lemmas.List.{take_at, drop_at}
-use Rattle.std.proofs.lemmas.Fmt.{digits_decimal, digits_value-decimal, decimal_nonempty}
-use Rattle.std.proofs.lemmas.Str.Parse.{IsNumeralModel, numerals_by_fold}
+use Rattle.std.proofs.lemmas.Fmt.{decimal_is_IsNumeral}
+use Rattle.std.proofs.lemmas.Str.Parse.{digit_from_value}
 use Rattle.expr_reader.specs.declared.token.Word.TheVariants.{Null, Mem, Region}
 use Rattle.expr_reader.specs.declared.token.Mark.TheVariants.{Open, Comma, Close}
-use Rattle.expr_reader.specs.Tokens.{Placed, word, number, mark, is_letter, is_digit, is_word_byte, number_from, number_of, meaning_of, further, tokens, tokens_from}
+use Rattle.expr_reader.specs.Tokens.{Placed, word, number, mark, is_letter, is_digit, is_word_byte, meaning_of, further, tokens, tokens_from}
 use Rattle.expr_reader.specs.Trees.{Tree, null, mem, region, bitmap, kr, freelist, quantize, stats, affix, segregate, buckets, fallback, list}
 use Rattle.expr_reader.specs.Grammar.{Spells, Fits}
 use Rattle.expr_reader.specs.Canonical.{numeral, region_text, canonical, in_place}
@@ -19,31 +20,14 @@ use Rattle.expr_reader.proofs.Unique.{spells_unique}
 
 -- ---- numbers
 
-all_digits : List ℕ → Bool
-all_digits [] = true
-all_digits (d ∷ ds) = is_digit d && all_digits ds
-
-own : IsNumeralModel (λ ds. all_digits ds ≡ true) (number_from 0)
-unfolding all_digits
-own = numerals_by_fold _ (search rules) number_from (search rules)
-
-both_true : (a b : Bool) → (a && b) ≡ true → (a ≡ true) × (b ≡ true)
-both_true true true e = (refl, refl)
-both_true true false e = absurd cc
-both_true false b e = absurd cc
+-- a digit is no letter and no space
+digit_begins : (d : ℕ) → digit_value d < 10 → (is_digit d ≡ true) × (is_letter d ≡ false) × (eqb d 32 ≡ false)
+digit_begins d h = let range = digit_from_value d h in (grind (arith, nat_tests), grind (arith, nat_tests), grind (arith, nat_tests))
 
 -- digits before a comma
-digits_len : (ds more : List ℕ) → all_digits ds ≡ true → prefix_len is_digit (ds ++ 44 ∷ more) ≡ length ds
-unfolding all_digits
+digits_len : (ds more : List ℕ) → AllDigits 10 ds → prefix_len is_digit (ds ++ 44 ∷ more) ≡ length ds
 digits_len [] more h = refl
-digits_len (d ∷ ds) more h =
-    let parts = both_true (is_digit d) (all_digits ds) h in
-    rw (parts.0, digits_len ds more parts.1) (omega arith)
-
-digit_no_letter : (d : ℕ) → is_digit d ≡ true → is_letter d ≡ false
-digit_no_letter d h =
-    let high : d ≤ 57 = leb-true d 57 (both_true (nat_le 48 d) (nat_le d 57) h).1 in
-    rw (lt-leb 97 d (omega arith)) refl
+digits_len (d ∷ ds) more h = rw ((digit_begins d h.0).0, digits_len ds more h.1) (omega arith)
 
 comma_token : (at : ℕ) (more : List ℕ) → tokens_from 0 at (44 ∷ more) ≡ record { at = at; meaning = mark Comma } ∷ tokens_from 0 (at + 1) more
 unfolding tokens_from
@@ -75,34 +59,32 @@ mem_tokens : (at : ℕ) (rest : List ℕ) → Stop rest → tokens_from 0 at (co
 unfolding tokens_from
 mem_tokens at rest h = let e : at + 1 + 1 + 1 ≡ at + 3 = omega arith in rw (stop_len rest h) (ap (λ k. record { at = at; meaning = word Mem } ∷ tokens_from 0 k rest) e)
 
-digits_token : (at d : ℕ) (ds more : List ℕ) → all_digits (d ∷ ds) ≡ true
-    → tokens_from 0 at (d ∷ (ds ++ 44 ∷ more)) ≡ record { at = at; meaning = number (number_of (d ∷ ds)) } ∷ tokens_from 0 (at + 1 + length ds) (44 ∷ more)
-unfolding tokens_from all_digits
+digits_token : (at d : ℕ) (ds more : List ℕ) → AllDigits 10 (d ∷ ds)
+    → tokens_from 0 at (d ∷ (ds ++ 44 ∷ more)) ≡ record { at = at; meaning = number (digits_value 10 (d ∷ ds)) } ∷ tokens_from 0 (at + 1 + length ds) (44 ∷ more)
+unfolding tokens_from
 digits_token at d ds more h =
-    let parts = both_true (is_digit d) (all_digits ds) h in
-    let low : 48 ≤ d = leb-true 48 d (both_true (nat_le 48 d) (nat_le d 57) parts.0).0 in
-    let no_space : eqb d 32 ≡ false = ne_eqb d 32 (λ e. omega arith) in
-    let len = digits_len ds more parts.1 in
-    let meant : meaning_of d (ds ++ 44 ∷ more) ≡ number (number_of (d ∷ ds)) = rw (digit_no_letter d parts.0, parts.0, len, take_at ds (44 ∷ more) (length ds) refl) refl in
-    let longer : further d (ds ++ 44 ∷ more) ≡ length ds = rw (digit_no_letter d parts.0, parts.0) len in
+    let first = digit_begins d h.0 in
+    let len = digits_len ds more h.1 in
+    let meant : meaning_of d (ds ++ 44 ∷ more) ≡ number (digits_value 10 (d ∷ ds)) = rw (first.1, first.0, len, take_at ds (44 ∷ more) (length ds) refl) refl in
+    let longer : further d (ds ++ 44 ∷ more) ≡ length ds = rw (first.1, first.0) len in
     let behind : tokens_from (length ds) (at + 1) (ds ++ 44 ∷ more) ≡ tokens_from 0 (at + 1 + length ds) (44 ∷ more) =
     tokens_from-skip (length ds) (at + 1) (ds ++ 44 ∷ more) ∙ ap (tokens_from 0 (at + 1 + length ds)) (drop_at ds (44 ∷ more) (length ds) refl) in
-    rw (no_space, longer, meant, behind) refl
+    rw (first.2, longer, meant, behind) refl
 
-numeral_by : (at n : ℕ) (ds more : List ℕ) → 0 < length ds → all_digits ds ≡ true → number_of ds ≡ n
+numeral_by : (at n : ℕ) (ds more : List ℕ) → IsNumeral 10 ds → digits_value 10 ds ≡ n
     → (p : ℕ) × (tokens_from 0 at ((ds ++ codes ",") ++ more) ≡ record { at = at; meaning = number n } ∷ record { at = p; meaning = mark Comma } ∷ tokens_from 0 (at + length (ds ++ codes ",")) more)
-numeral_by at n [] more some digits is = absurd (omega arith)
-numeral_by at n (d ∷ ds) more some digits is =
+numeral_by at n [] more h is = absurd (omega arith)
+numeral_by at n (d ∷ ds) more h is =
     let behind : at + 1 + length ds + 1 ≡ at + length ((d ∷ ds) ++ codes ",") = omega (arith, length-append (d ∷ ds) (codes ",")) in (
       at + 1 + length ds,
-      ap (tokens_from 0 at) (append_assoc (d ∷ ds) (codes ",") more) ∙ digits_token at d ds more digits
+      ap (tokens_from 0 at) (append_assoc (d ∷ ds) (codes ",") more) ∙ digits_token at d ds more h.1
           ∙ (λ i. record { at = at; meaning = number (is i) } ∷ comma_token (at + 1 + length ds) more i)
           ∙ ap (λ k. record { at = at; meaning = number n } ∷ record { at = at + 1 + length ds; meaning = mark Comma } ∷ tokens_from 0 k more) behind,
     )
 
 numeral_tokens : (at n : ℕ) (more : List ℕ) → n < 2 ^ 64
     → (p : ℕ) × (tokens_from 0 at (numeral n ++ more) ≡ record { at = at; meaning = number n } ∷ record { at = p; meaning = mark Comma } ∷ tokens_from 0 (at + length (numeral n)) more)
-numeral_tokens at n more small = numeral_by at n (decimal n) more (decimal_nonempty n small) (digits_decimal own n small) (digits_value-decimal own n small)
+numeral_tokens at n more small = let written = decimal_is_IsNumeral n small in numeral_by at n (decimal n) more written.0 written.1
 
 -- ---- trees
 

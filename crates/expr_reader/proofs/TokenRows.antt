@@ -1,28 +1,26 @@
 -- Rows of tokens: what stands behind a token, and numbers.
-use Rattle.std.proofs.Common.{◌≡◌, ◌≢◌, ℕ, zero, suc, ◌+◌, ◌-◌, ◌*◌, ◌^◌, ◌<◌, ◌≤◌, true, false, List, [], ◌∷◌, ◌++◌, length, get_or, drop, take, map, None, refl, sym, ◌∙◌, ap, arith, eqb, add-zero, add_comm, append_assoc, append-nil, add_assoc, add-one}
+use Rattle.std.proofs.Common.{◌≡◌, ◌≢◌, ℕ, zero, suc, ◌+◌, ◌-◌, ◌*◌, ◌^◌, ◌<◌, ◌≤◌, true, false, List, [], ◌∷◌, ◌++◌, length, get_or, drop, take, map, Option, Some, None, refl, sym, ◌∙◌, ap, arith, eqb, add-zero, add_comm, append_assoc, append-nil, add_assoc, add-one}
 use Rattle.std.proofs.lemmas.List.{take_all, drop_all, drop-drop, length-drop}
-use Rattle.std.proofs.Math.Seq.{drop-cons}
 use Rattle.std.proofs.lemmas.Grind.{common_steps}
 use Rattle.std.proofs.lemmas.Bool.{ne_eqb}
+use Rattle.std.proofs.lemmas.Int.Digits.{digits_more, digits_value_more}
+use Rattle.std.proofs.lemmas.List.Sums.{prefix_len_passes}
+use Rattle.std.proofs.lemmas.Str.Parse.{digit_at, digits_value-take-le, numerals_by_value, tells_by_index}
+use Rattle.std.specs.Char.{digit_value}
 use Rattle.std.specs.List.{prefix_len}
+use Rattle.std.specs.Option.{SomeIff}
+use Rattle.std.specs.Str.Parse.{AllDigits, digits_value}
 use Rattle.expr_reader.specs.declared.token.Token.{Token}
 use Rattle.expr_reader.specs.declared.token.Kind.TheVariants as kind
-use Rattle.expr_reader.specs.Tokens.{is_letter, is_digit, is_word_byte, word_of, Meaning, tokens_from, number_from, number_of, meaning_of, further, held}
+use Rattle.expr_reader.specs.Tokens.{is_letter, is_digit, is_word_byte, word_of, Meaning, tokens_from, meaning_of, further, held}
 use Rattle.expr_reader.specs.Descent.{seen, kind_of}
 
--- reading on makes no number less
-number_from-le : (n : ℕ) (ds : List ℕ) → n ≤ number_from n ds
-number_from-le n [] = omega arith
-number_from-le n (d ∷ ds) = omega (arith, number_from-le (10 * n + (d - 48)) ds)
+-- the first digits and one more are worth no more than all, so a number that is too large stays so
+pub digits_value-step-le : (ds : List ℕ) (i : ℕ) → i < length ds → digits_value 10 (take i ds) * 10 + digit_value (get_or ds i 0) ≤ digits_value 10 ds
+digits_value-step-le ds i lt = omega (arith, digits_value_more 10 ds i lt, digits_value-take-le 10 ds (i + 1) (omega arith))
 
-held_none : (n : ℕ) → 2 ^ 64 ≤ n → held n ≡ None
-held_none n h = grind (arith, common_steps)
-
--- a number that is too large stays so
-pub too_large : (digits : List ℕ) (n i : ℕ) → i < length digits → number_from n (drop i digits) ≡ number_of digits → 2 ^ 64 ≤ 10 * n + (get_or digits i 0 - 48) → held (number_of digits) ≡ None
-too_large digits n i lt e h =
-    let one : number_from n (drop i digits) ≡ number_from (10 * n + (get_or digits i 0 - 48)) (drop (suc i) digits) = ap (number_from n) (drop-cons digits i 0 lt) in
-    held_none (number_of digits) (omega (arith, number_from-le (10 * n + (get_or digits i 0 - 48)) (drop (suc i) digits), one, e))
+-- for the loop that reads a number
+pub ruleset digit_rules = (digit_at, digits_more, digits_value_more, digits_value-step-le)
 
 -- a token's bytes, of which the first is apart
 pub front_of : (text : List ℕ) (len : ℕ) → 0 < length text → take (1 + len) text ≡ get_or text 0 0 ∷ take len (drop 1 text)
@@ -34,10 +32,23 @@ pub letter_kind : (text : List ℕ) (len : ℕ) → 0 < length text → is_lette
     → kind.Word (word_of (take (1 + len) text)) ≡ kind_of (meaning_of (get_or text 0 0) (drop 1 text))
 letter_kind text len h is len-is = rw (front_of text len h, is, len-is) refl
 
+-- what stands before the first byte that is no digit
+digits_ahead : (bs : List ℕ) → AllDigits 10 (take (prefix_len is_digit bs) bs)
+digits_ahead bs = (numerals_by_value _ tells_by_index).to (take (prefix_len is_digit bs) bs) (λ i lt. grind (arith, common_steps, prefix_len_passes is_digit bs i 0))
+
+-- what is read of digits, where they fit
+held_if : (n : Option ℕ) (P : Type 0) (value : ℕ) → P → SomeIff n (P × (value < 2 ^ 64)) value → n ≡ held value
+held_if (Some n) P value p h = grind (arith, common_steps)
+held_if None P value p h = grind (arith, common_steps)
+
 -- the token that a digit begins
-pub digit_kind : (text : List ℕ) (len : ℕ) → 0 < length text → is_letter (get_or text 0 0) ≡ false → is_digit (get_or text 0 0) ≡ true → len ≡ prefix_len is_digit (drop 1 text)
-    → kind.Number (held (number_of (take (1 + len) text))) ≡ kind_of (meaning_of (get_or text 0 0) (drop 1 text))
-digit_kind text len h isnt is len-is = rw (front_of text len h, isnt, is, len-is) refl
+pub digit_kind : (text : List ℕ) (len : ℕ) (n : Option ℕ) → 0 < length text → is_letter (get_or text 0 0) ≡ false → is_digit (get_or text 0 0) ≡ true → len ≡ prefix_len is_digit (drop 1 text)
+    → SomeIff n (AllDigits 10 (take (1 + len) text) × (digits_value 10 (take (1 + len) text) < 2 ^ 64)) (digits_value 10 (take (1 + len) text))
+    → kind.Number n ≡ kind_of (meaning_of (get_or text 0 0) (drop 1 text))
+digit_kind text len n h isnt is len-is read =
+    let front = front_of text len h in
+    let all : AllDigits 10 (take (1 + len) text) = rw (front, len-is) (grind (arith, common_steps), digits_ahead (drop 1 text)) in
+    ap kind.Number (held_if n _ _ all read) ∙ rw (front, isnt, is, len-is) refl
 
 -- the tokens behind some bytes of a token that began before
 pub tokens_from-skip : (k at : ℕ) (bs : List ℕ) → tokens_from k at bs ≡ tokens_from 0 (at + k) (drop k bs)

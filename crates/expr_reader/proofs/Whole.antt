@@ -11,7 +11,7 @@ use Rattle.expr_reader.specs.Trees.{Tree, tree_of, null, mem, region, bitmap, kr
 use Rattle.expr_reader.specs.Grammar.{Spells, Fits, depth}
 use Rattle.expr_reader.specs.Flaws.{flaws, first_told, first_of_two, goes_before}
 use Rattle.expr_reader.specs.Faults.{most_layers, FirstFault}
-use Rattle.expr_reader.specs.Answers.{Reads, IsAccepted, HasFault, IsFaultOrNoMemory, FailsWith, Gives}
+use Rattle.expr_reader.specs.Answers.{Reads, IsAccepted, HasFault, IsReadAs, EachTextIsReadOnce, IsFaultOrNoMemory, FailsWith, Gives}
 use Rattle.expr_reader.specs.Descent.{Found, ◌>>=◌, seen, tree_at, ending, whole_at, judged, answer_to, Answers}
 use Rattle.expr_reader.proofs.Machine.{tree, go, finish, go_tree, Unopposed}
 use Rattle.expr_reader.proofs.Agreeing.{large, deep, fits-large, TreeGood, tree_outcome}
@@ -207,3 +207,17 @@ read_refuses text (Err NoMemory) h f k = inr refl
 pub read_sound : (text : List ℕ) (r : Result Expr ExprFault) → Answers tree_of r (answer_to text) → IfOk r (λ e. IsAccepted text (tree_of e)) × IfErr r (λ f. IsFaultOrNoMemory text f)
 read_sound text (Ok e) h = (read_ok text e h, tt)
 read_sound text (Err f) h = (tt, read_err text f h)
+
+-- ---- each text is read once
+
+-- what the descent answers is what the text is read as
+pub answered_reads : (text : List ℕ) (r : Result Tree ExprFault) → answer_to text ≡ r → IsReadAs text r
+answered_reads text (Ok e) h = (answers_right text).0 e h
+answered_reads text (Err f) h = (answers_right text).1 f h
+
+reads_answered : (text : List ℕ) (r : Result Tree ExprFault) → IsReadAs text r → answer_to text ≡ r
+reads_answered text (Ok e) h = accepted_answered text e h
+reads_answered text (Err f) h = fault_answered text f h
+
+pub read_once : EachTextIsReadOnce
+read_once text = (answer_to text, answered_reads text (answer_to text) refl, λ other h. sym (reads_answered text other h))

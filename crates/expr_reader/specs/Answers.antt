@@ -26,6 +26,16 @@ HasFault text f =
     FirstFault [] (tokens text) (length text) f
     ⊎ ((e : Tree) × Reads text e × (first_told (flaws e (tokens text)) ≡ Some f))
 
+-- What the text is read as: the tree that it spells without a flaw, or its fault.
+abbrev pub IsReadAs : List ℕ → Result Tree ExprFault → Type 0
+IsReadAs text (Ok e) = IsAccepted text e
+IsReadAs text (Err f) = HasFault text f
+
+-- Each text is read as one thing, and as no other.
+abbrev pub EachTextIsReadOnce : Type 0
+EachTextIsReadOnce =
+    (text : List ℕ) → (r : Result Tree ExprFault) × IsReadAs text r × ((other : Result Tree ExprFault) → IsReadAs text other → other ≡ r)
+
 -- The fault is the text's, or memory ran out.
 abbrev pub IsFaultOrNoMemory : List ℕ → ExprFault → Type 0
 IsFaultOrNoMemory text (Syntax at) = HasFault text (Syntax at)

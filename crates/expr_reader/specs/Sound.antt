@@ -1,7 +1,9 @@
 -- Sound trees: those of the grammar whose numbers keep their rules. How many leaves a tree takes, and what is proved of the shapes of accepted trees.
-use Rattle.std.specs.Prelude.{◌≡◌, ℕ, ◌+◌, ◌≤◌, Bool, true, false, ◌&&◌, nat_le, List}
-use Rattle.space_core.specs.Memory.{Memory}
+use Rattle.std.specs.Prelude.{◌≡◌, ℕ, ◌+◌, ◌≤◌, ◌<◌, Bool, true, false, ◌&&◌, nat_le, List}
+use Rattle.space_core.specs.Memory.{Memory, most_leaves}
 use Rattle.layer_rules.specs.Proper.{is_tree}
+use Rattle.layer_rules.specs.Leaves.{IsLeaf, HasDistinctTags}
+use Rattle.layer_laws.specs.Covered.{IsCovered}
 use Rattle.expr_reader.specs.Trees.{Tree, null, mem, region, bitmap, kr, freelist, quantize, stats, affix, segregate, buckets, fallback, list}
 use Rattle.expr_reader.specs.Grammar.{depth}
 use Rattle.expr_reader.specs.Flaws.{alignment, is_region_size, is_region_alignment}
@@ -50,6 +52,15 @@ leaf_count (list at count e) = 0
 abbrev pub with_leaves : ℕ → Memory → Memory
 with_leaves n m = record m { leaves = m.leaves + n }
 
--- The shape of an accepted tree is one that a tree of layers may have, whatever leaves the Space has made.
+-- The shape of the tree is one that a tree of layers may have, and its leaves are the next of the Space, each once, no more
+-- than a Space makes.
+pub record HasTreeShape (e : Tree) (made : ℕ) : Type 0 where
+  pub proper : is_tree (shape_of e made) ≡ true
+  pub covered : IsCovered (shape_of e made)
+  pub distinct : HasDistinctTags (shape_of e made)
+  pub next : (tag : ℕ) → IsLeaf (shape_of e made) tag → (made < tag) × (tag ≤ made + leaf_count e)
+  pub few : leaf_count e ≤ most_leaves
+
+-- Each accepted tree has such a shape, whatever leaves the Space has made.
 abbrev pub AcceptedAreTrees : Type 0
-AcceptedAreTrees = (text : List ℕ) (e : Tree) → IsAccepted text e → (made : ℕ) → is_tree (shape_of e made) ≡ true
+AcceptedAreTrees = (text : List ℕ) (e : Tree) → IsAccepted text e → (made : ℕ) → HasTreeShape e made

@@ -1,7 +1,8 @@
 -- The tokens of a text, each with its place. Spaces stand between tokens and mean nothing.
-use Rattle.std.specs.Prelude.{ℕ, zero, suc, ◌+◌, ◌-◌, ◌*◌, ◌^◌, Bool, ◌&&◌, ◌||◌, ◌==◌, nat_le, nat_lt, if◌then◌else◌, List, [], ◌∷◌, take, codes, Option, Some, None}
+use Rattle.std.specs.Prelude.{ℕ, zero, suc, ◌+◌, ◌^◌, Bool, ◌&&◌, ◌||◌, ◌==◌, nat_le, nat_lt, if◌then◌else◌, List, [], ◌∷◌, take, codes, Option, Some, None}
 use Rattle.std.specs.List.{prefix_len}
 use Rattle.std.specs.Str.{bytes_eq}
+use Rattle.std.specs.Str.Parse.{digits_value}
 use Rattle.expr_reader.specs.declared.token.Word.{Word}
 use Rattle.expr_reader.specs.declared.token.Word.TheVariants.{Null, Mem, Region, Unknown}
 use Rattle.expr_reader.specs.declared.token.Mark.{Mark}
@@ -29,14 +30,6 @@ is_digit b = nat_le 48 b && nat_le b 57
 abbrev pub is_word_byte : ℕ → Bool
 is_word_byte b = is_letter b || is_digit b
 
--- the number that digits stand for, read on behind one
-abbrev pub number_from : ℕ → List ℕ → ℕ
-number_from n [] = n
-number_from n (d ∷ ds) = number_from (10 * n + (d - 48)) ds
-
-abbrev pub number_of : List ℕ → ℕ
-number_of ds = number_from 0 ds
-
 -- the words of the grammar, by their letters
 abbrev pub word_of : List ℕ → Word
 word_of letters =
@@ -49,7 +42,7 @@ word_of letters =
 abbrev pub meaning_of : ℕ → List ℕ → Meaning
 meaning_of b rest =
     if is_letter b then word (word_of (b ∷ take (prefix_len is_word_byte rest) rest))
-    else (if is_digit b then number (number_of (b ∷ take (prefix_len is_digit rest) rest))
+    else (if is_digit b then number (digits_value 10 (b ∷ take (prefix_len is_digit rest) rest))
     else (if b == 40 then mark Open
     else (if b == 44 then mark Comma
     else (if b == 41 then mark Close

@@ -1,6 +1,6 @@
 //! Building: from an expression that was accepted to a closed tree of layers.
 
-ghost use Rattle.std.specs.Prelude.{◌≡◌, ℕ, ◌+◌, ◌≤◌, List, true, IfOk};
+ghost use Rattle.std.specs.Prelude.{◌≡◌, ℕ, ◌+◌, ◌≤◌, List, IfOk};
 ghost use Rattle.space_core.specs.Memory.{most_leaves};
 ghost use Rattle.layer_rules.specs.Layering.{IsShut};
 ghost use Rattle.expr_reader.specs.Trees.{tree_of};
@@ -25,7 +25,7 @@ trait Level: Layer {
     fn build(alloc: Global, expr: &Expr, space: &mut Space) -> Result<Self, NoMemory>
         requires buildable { IsBuildable (tree_of expr.now) }
         requires levels { depth (tree_of expr.now) ≤ levels }
-        requires leaves { space.old.leaves + 1 ≤ most_leaves }
+        requires leaves { space.old.leaves + leaf_count (tree_of expr.now) ≤ most_leaves }
         ensures shape { IfOk result (λ l. (Self.tree l).shape ≡ shape_of (tree_of expr.now) space.old.leaves) }
         ensures shut { IfOk result (λ l. IsShut (Self.tree l)) }
         ensures space { space.new ≡ with_leaves (leaf_count (tree_of expr.now)) space.old };
@@ -83,8 +83,8 @@ impl Level for LowerHalf {
 pub fn build(alloc: Global, expr: &Expr, space: &mut Space) -> Result<Tree, NoMemory>
     // The expression is one that `read` answers.
     requires accepted { (text : List ℕ) × IsAccepted text (tree_of expr.now) }
-    // At most one `mem` stands in an expression.
-    requires leaves { space.old.leaves + 1 ≤ most_leaves }
+    // The Space has room for its leaves.
+    requires leaves { space.old.leaves + leaf_count (tree_of expr.now) ≤ most_leaves }
     ensures shape { IfOk result (λ t. (⟦<Tree as Layer>⟧.tree t).shape ≡ shape_of (tree_of expr.now) space.old.leaves) }
     ensures shut { IfOk result (λ t. IsShut (⟦<Tree as Layer>⟧.tree t)) }
     // Only the count of leaves changes, whatever is answered.
@@ -93,7 +93,8 @@ pub fn build(alloc: Global, expr: &Expr, space: &mut Space) -> Result<Tree, NoMe
     Tree::build(alloc, expr, space)
 }
 
-/// The shape of an expression that was accepted is proper, and within the bounds of a tree of layers.
+/// The shape of an expression that was accepted is proper, within the bounds of a tree of layers, and of covered forms. Its leaves are
+/// the next that the Space makes, each once.
 pub fn accepted_are_trees()
     ensures { AcceptedAreTrees }
 {}

@@ -1,8 +1,10 @@
 //! Texts as tokens.
 
-ghost use Rattle.std.specs.Prelude.{◌≡◌, ◌+◌, ◌≤◌, ◌<◌, false, [], length, drop, map, slice_index, IfOk};
+ghost use Rattle.std.specs.Prelude.{◌≡◌, ◌^◌, ◌≤◌, ◌<◌, false, [], length, drop, map, slice_index, IfOk};
 ghost use Rattle.std.specs.List.{prefix_len};
-ghost use Rattle.expr_reader.specs.Tokens.{is_letter, is_digit, is_word_byte, number_of, word_of, meaning_of, further, tokens, held};
+ghost use Rattle.std.specs.Option.{SomeIff};
+ghost use Rattle.std.specs.Str.Parse.{AllDigits, digits_value};
+ghost use Rattle.expr_reader.specs.Tokens.{is_letter, is_digit, is_word_byte, word_of, meaning_of, further, tokens};
 ghost use Rattle.expr_reader.specs.Descent.{kind_of, seen};
 
 use crate::token::{Kind, Mark, Token, Word};
@@ -44,18 +46,15 @@ fn digits_len(bytes: &[u8]) -> usize
     len
 }
 
-/// The number that digits stand for, or None above 2^64 - 1.
-#[tactic(auto, using(crate::proofs::TokenRows::too_large))]
+/// The number that digits stand for, or None above 2^64 - 1 and where a byte is no digit.
+#[tactic(auto, using(crate::proofs::TokenRows::digit_rules))]
 fn number(digits: &[u8]) -> Option<u64>
-    ensures { result ≡ held (number_of digits.now) }
+    ensures { SomeIff result (AllDigits 10 digits.now × (digits_value 10 digits.now < 2 ^ 64)) (digits_value 10 digits.now) }
 {
     let mut value: u64 = 0;
     for digit in digits {
-        let units = u64::from(digit.saturating_sub(b'0'));
-        if value > (u64::MAX - units) / 10 {
-            return None;
-        }
-        value = 10 * value + units;
+        let units = char::from(*digit).to_digit(10)?;
+        value = value.checked_mul(10)?.checked_add(u64::from(units))?;
     }
     Some(value)
 }

@@ -1,12 +1,11 @@
 //! Reading: from the tokens of a text to an expression.
 
-ghost use Rattle.std.specs.Prelude.{◌≡◌, ◌+◌, ◌≤◌, ◌<◌, length, map, IfOk, IfErr, nat_le, IsTrue, ◌↔◌};
+ghost use Rattle.std.specs.Prelude.{◌≡◌, ◌≤◌, IfOk, IfErr};
 ghost use Rattle.layer_rules.specs.Proper.{is_power_of_two};
 ghost use Rattle.expr_reader.specs.Trees.{Tree, tree_of};
-ghost use Rattle.expr_reader.specs.Tokens.{tokens};
 ghost use Rattle.expr_reader.specs.Flaws.{alignment, is_region_size, is_region_alignment, unless, first_of_two, fault_place, fault_rank, goes_before};
-ghost use Rattle.expr_reader.specs.Descent.{same_mark, behind_mark, number_at, numeral_at, region_flaw, layer_at, tree_at, whole_at, answer_to, seen, Answers};
-ghost use Rattle.expr_reader.specs.Answers.{IsAccepted, HasFault, IsFaultOrNoMemory, FailsWith, Gives};
+ghost use Rattle.expr_reader.specs.Descent.{same_mark, behind_mark, number_at, numeral_at, region_flaw, layer_at, tree_at, whole_at, answer_to, Answers};
+ghost use Rattle.expr_reader.specs.Answers.{IsAccepted, HasFault, IsFaultOrNoMemory, FailsWith, Gives, EachTextIsReadOnce};
 ghost use Rattle.expr_reader.specs.declared.fault.ExprFault.{ExprFault};
 ghost use Rattle.expr_reader.specs.Reader.{numeral, found};
 
@@ -14,6 +13,7 @@ use crate::fault::ExprFault;
 use crate::lexing::tokens;
 use crate::token::{Kind, Mark, Token, Word};
 use crate::tree::{Expr, Form};
+use size_round::{PowerOfTwo, Rounding};
 use std::alloc::Global;
 
 /// How many layers may stand on one path above a leaf.
@@ -101,11 +101,7 @@ fn is_power_of_two(align: u64) -> bool
     requires most { align ≤ 4096 }
     ensures { result ≡ is_power_of_two align }
 {
-    let mut power = 1;
-    while power < align {
-        power *= 2;
-    }
-    power == align
+    PowerOfTwo.round(align) == align
 }
 
 fn is_region_size(size: u64) -> bool
@@ -296,3 +292,8 @@ pub fn read(alloc: Global, text: &str) -> Result<Expr, ExprFault>
 {
     answer(alloc, text.as_bytes())
 }
+
+/// Each text is read as one expression or has one fault, and no other.
+pub fn each_text_is_read_once()
+    ensures { EachTextIsReadOnce }
+{}

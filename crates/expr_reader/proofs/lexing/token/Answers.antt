@@ -11,4 +11,4 @@ returns-then-is_letter-clause-kind c =
 
 pub returns-then-is_digit-clause-kind : goal.returns-then-is_digit-clause-kind
 returns-then-is_digit-clause-kind c =
-    ap kind.Number c.number.ensures ∙ digit_kind c.args.text.now c.digits_len-len.result c.requires (sym c.is_letter.ensures ∙ c.if-is_letter.false) (sym c.is_digit.ensures ∙ c.if-is_digit.true) (c.digits_len-len.ensures.len ∙ ap (prefix_len is_digit) (slice_tail 1 c.args.text.now))
+    digit_kind c.args.text.now c.digits_len-len.result c.number.result c.requires (sym c.is_letter.ensures ∙ c.if-is_letter.false) (sym c.is_digit.ensures ∙ c.if-is_digit.true) (c.digits_len-len.ensures.len ∙ ap (prefix_len is_digit) (slice_tail 1 c.args.text.now)) c.number.ensures
