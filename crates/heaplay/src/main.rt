@@ -1,4 +1,5 @@
-//! Replays a trace from standard input, as the words of the command line say, and writes the answers to standard output.
+//! Tells what stands in an expression, or replays a trace from standard input on a heap of its layers, as the words of
+//! the command line say. All output goes to standard output.
 #![tactic(auto)]
 
 use play_core::run;

@@ -1,3 +1,4 @@
+pub mod Numbers
 pub mod PutLemmas
 pub mod LineFacts
 pub mod Outcomes
@@ -7,8 +8,10 @@ pub mod Going
 pub mod FactCounts
 pub mod WorldTotals
 pub mod ReportLemmas
-pub mod WordLemmas
 pub mod Running
 pub mod Whole
+pub mod Asking
+pub mod Clauses
+pub mod Obeying
 pub mod RootLemmas
 mod RunsAlong

@@ -1,3 +1,5 @@
+pub mod Asked
+pub mod CheckText
 pub mod Codes
 pub mod Command
 pub mod Devices

@@ -1,21 +1,21 @@
 -- Runs: what a run of words did, from what is known of the source, the sink and the Space before and after it.
-use Rattle.std.specs.Prelude.{◌≡◌, ℕ, ◌⊎◌, List, [], Option, Some, None, Ok, Err, IsOk, IsErr, ⊤}
+use Rattle.std.specs.Prelude.{◌≡◌, ℕ, ◌⊎◌, List, [], Ok, Err, ⊤}
 use Rattle.space_core.specs.Memory.{Memory}
 use Rattle.layer_rules.specs.Rows.{Each}
 use Rattle.layer_rules.specs.Shape.{Shape}
 use Rattle.layer_rules.specs.Layering.{Tree}
 use Rattle.layer_rules.specs.After.{Opening}
 use Rattle.heap_core.specs.declared.Named.{Named}
-use Rattle.heap_core.specs.declared.heap.MakeFault.{MakeFault}
-use Rattle.heap_core.specs.declared.heap.MakeFault.TheVariants as faults
 use Rattle.heap_core.specs.Holding.{Held, run_in}
 use Rattle.heap_core.specs.Performing.{Run, run_of}
 use Rattle.source_sink.specs.Sinks.{Appends}
 use Rattle.play_core.specs.declared.Status.{Status}
-use Rattle.play_core.specs.declared.Status.TheVariants.{Usage, Expression, WriteFault, OpeningRefused, NoMemory}
+use Rattle.play_core.specs.declared.Status.TheVariants.{Good, Usage, Expression, WriteFault, OpeningRefused, NoMemory}
+use Rattle.play_core.specs.Asked.{Asked, Nothing, Refused, Checks, Replays, root_of, opening_of}
+use Rattle.play_core.specs.CheckText.{check_text}
 use Rattle.play_core.specs.Devices.{Reading, Writing, PutsAll, PutsPart}
 use Rattle.play_core.specs.Ran.{Ran}
-use Rattle.play_core.specs.Telling.{Telling, Only, Plays, usage_text, expression_text, refused_text, root_of, opening_of}
+use Rattle.play_core.specs.Telling.{Telling, Only, Plays, usage_text, expression_text, refused_text}
 use Rattle.play_core.specs.Told.{text_of}
 
 -- no cell of the Space is taken
@@ -56,31 +56,25 @@ abbrev pub Opens : Shape → Opening → (r r' : Reading) (w w' : Writing) → M
 Opens shape (Err node) r r' w w' m end = SaysOnly OpeningRefused (refused_text node) r r' w w' m end
 Opens shape (Ok o) r r' w w' m end = Played shape (run_of o.state o.cells []) r r' w w' m end
 
--- what a run of the words did
-abbrev pub Runs : (cells size : Option ℕ) (r r' : Reading) (w w' : Writing) → Memory → (end : Status) → Type 0
-Runs None size r r' w w' m end = SaysOnly Usage usage_text r r' w w' m end
-Runs (Some cells) None r r' w w' m end = SaysOnly Expression expression_text r r' w w' m end
-Runs (Some cells) (Some size) r r' w w' m end = GivesUp r r' w w' m end ⊎ Opens (root_of size) (opening_of cells size) r r' w w' m end
+-- a trace was run on a root with this shape, by what opening it gives, or there was no memory for it
+abbrev pub PlaysOn : Shape → Opening → (r r' : Reading) (w w' : Writing) → Memory → (end : Status) → Type 0
+PlaysOn shape opening r r' w w' m end = GivesUp r r' w w' m end ⊎ Opens shape opening r r' w w' m end
+
+-- one text was written so, or there was no memory for it
+abbrev pub MaySay : Status → (text : List ℕ) → (r r' : Reading) (w w' : Writing) → Memory → (end : Status) → Type 0
+MaySay status text r r' w w' m end = GivesUp r r' w w' m end ⊎ SaysOnly status text r r' w w' m end
+
+-- what a run of words did that ask for this
+abbrev pub Runs : Asked → (r r' : Reading) (w w' : Writing) → Memory → (end : Status) → Type 0
+Runs Nothing r r' w w' m end = SaysOnly Usage usage_text r r' w w' m end
+Runs (Refused fault) r r' w w' m end = MaySay Expression (expression_text fault) r r' w w' m end
+Runs (Checks e) r r' w w' m end = MaySay Good (check_text e) r r' w w' m end
+Runs (Replays e cells) r r' w w' m end = PlaysOn (root_of e) (opening_of e cells) r r' w w' m end
 
 -- the status and the text are those of what is told, and the Space is left as that says
 abbrev pub IsTold : Telling → (w w' : Writing) → Memory → (end : Status) → Type 0
 IsTold (Only status text) w w' m end = (end ≡ status) × Appends w.holds w'.holds text × HasAllFree m
 IsTold (Plays shape all) w w' m end = (end ≡ all.status) × Appends w.holds w'.holds (text_of all.pieces) × Leaves shape all.run m
-
--- no heap was made: there was no memory, or opening refuses; no cell is taken
-abbrev pub MakesNone : MakeFault → Opening → Memory → Type 0
-MakesNone faults.NoMemory opening m = HasAllFree m
-MakesNone (faults.Refused node) (Err refused) m = (node ≡ refused) × HasAllFree m
-MakesNone (faults.Refused node) (Ok o) m = ⊥
-
--- the root is granted, or refused, where the words ask for one
-abbrev pub IsGranted : (cells size : Option ℕ) → Type 0
-IsGranted (Some cells) (Some size) = IsOk (opening_of cells size)
-IsGranted _ _ = ⊥
-
-abbrev pub IsRefused : (cells size : Option ℕ) → Type 0
-IsRefused (Some cells) (Some size) = IsErr (opening_of cells size)
-IsRefused _ _ = ⊥
 
 -- a run ends so before it reads
 abbrev pub IsEarly : Status → Type 0

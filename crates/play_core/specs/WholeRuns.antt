@@ -13,9 +13,10 @@ use Rattle.heap_core.specs.declared.Answer.TheVariants.{Null}
 use Rattle.heap_core.specs.Moves.{Moves}
 use Rattle.heap_core.specs.Performing.{Run, run_of}
 use Rattle.heap_core.specs.RunFacts.{AreBlocks, IsZeroed}
-use Rattle.play_core.specs.Command.{cells_asked}
+use Rattle.expr_reader.specs.Trees.{Tree as Expression}
+use Rattle.play_core.specs.Asked.{Asks, Replays, free_cells}
 use Rattle.play_core.specs.Told.{Piece, Exchange}
-use Rattle.play_core.specs.Telling.{Telling, Only, Plays, told_words, free_cells}
+use Rattle.play_core.specs.Telling.{Telling, Only, Plays, telling}
 
 -- null is the answer exactly where 0 bytes are asked or the root refuses in this run
 abbrev pub IsNullExactly : Shape → Run → Call → Answer → Type 0
@@ -45,11 +46,10 @@ pub record IsBlockRun (shape : Shape) (cells : ℕ) (pieces : List Piece) : Type
   pub blocks : Each (HasBlocks (alignment shape) cells) pieces
 
 -- what is told after a granted opening is such a run
-abbrev pub TellsBlockRun : (cells : Option ℕ) → Telling → Type 0
+abbrev pub TellsBlockRun : (cells : ℕ) → Telling → Type 0
 TellsBlockRun cells (Only status text) = ⊤
-TellsBlockRun (Some cells) (Plays shape all) = IsBlockRun shape cells all.pieces
-TellsBlockRun None (Plays shape all) = ⊥
+TellsBlockRun cells (Plays shape all) = IsBlockRun shape cells all.pieces
 
--- so for all words and every input
+-- so for all words that ask for a trace to be run, and every input
 abbrev pub WholeRuns : Type 0
-WholeRuns = (words : List (List ℕ)) (input : List ℕ) → TellsBlockRun (cells_asked words) (told_words words input)
+WholeRuns = (words : List (List ℕ)) (e : Expression) (cells : ℕ) → Asks words (Replays e cells) → (input : List ℕ) → TellsBlockRun cells (telling (Replays e cells) input)

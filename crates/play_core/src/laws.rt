@@ -1,6 +1,13 @@
 //! What holds of what words and an input are told. Each function does nothing; its contract is the law.
+ghost use Rattle.play_core.specs.Asked.{AllWordsAskOnce};
 ghost use Rattle.play_core.specs.WholeRuns.{WholeRuns};
-ghost use Rattle.play_core.specs.WorkedRows.{EmptyTrace, FirstTrace, FullRegion, NoBytes, NoCells, OpeningTooLong, OtherExpression};
+ghost use Rattle.play_core.specs.WorkedRows.{CellsAlone, CheckAlignment, CheckCells, CheckRegion, CheckTooLarge, EmptyTrace, ExpressionFault, FirstTrace, FullRegion, NoBytes, NoCells, OpeningOfTheInner, OpeningOfTheOuter, OpeningTooLong, RegionOverRegion};
+
+/// All words ask for one thing, and for no other: the usage, the fault of an expression, what stands in it, or a run
+/// of a trace.
+pub fn all_words_ask_once()
+    ensures { AllWordsAskOnce }
+{}
 
 /// In every run that words and an input are told, each answer is a step of the machine of blocks, null comes exactly
 /// where 0 bytes are asked or the root refuses, and nothing else changes a name, a block or a byte. At every piece of
@@ -15,7 +22,15 @@ pub fn worked_rows()
     ensures empty_trace { EmptyTrace }
     ensures no_bytes { NoBytes }
     ensures full_region { FullRegion }
+    ensures cells_alone { CellsAlone }
+    ensures region_over_region { RegionOverRegion }
     ensures opening_too_long { OpeningTooLong }
-    ensures other_expression { OtherExpression }
+    ensures opening_of_the_outer { OpeningOfTheOuter }
+    ensures opening_of_the_inner { OpeningOfTheInner }
+    ensures expression_fault { ExpressionFault }
     ensures no_cells { NoCells }
+    ensures check_region { CheckRegion }
+    ensures check_cells { CheckCells }
+    ensures check_too_large { CheckTooLarge }
+    ensures check_alignment { CheckAlignment }
 {}

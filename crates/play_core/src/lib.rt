@@ -4,8 +4,10 @@
 ghost use Rattle.std.specs.Prelude.{◌≡◌};
 ghost use Rattle.play_core.specs.Codes.{code_of};
 
+mod expression;
 mod feeding;
 pub mod laws;
+mod playing;
 mod putting;
 mod reader;
 mod replaying;
@@ -20,11 +22,11 @@ pub use top::run;
 /// How a run ended.
 #[derive(Clone, Copy, Debug, PartialEq, Eq)]
 pub enum Status {
-    /// The input was read to its end, and the answers and the report were written.
+    /// The trace was read to its end, and the answers and the report were written. Or what stands in the expression was.
     Good,
     /// The words are no command. The usage was written, and nothing was read.
     Usage,
-    /// The expression has another form than `region(SIZE,16,mem)`. Nothing was read.
+    /// The expression is in fault. What is wrong and where was written, and nothing was read.
     Expression,
     /// A line was in fault. The answers to the lines before it and its fault were written.
     Trace,
@@ -34,7 +36,7 @@ pub enum Status {
     WriteFault,
     /// The root could not be opened. The node was written, and nothing was read.
     OpeningRefused,
-    /// The process has no memory for the Space and the heap. Nothing was read or written.
+    /// The process has no memory for the expression, the Space or the heap. Nothing was read or written.
     NoMemory,
 }
 

@@ -3,8 +3,9 @@ ghost use Rattle.std.specs.Prelude.{◌≡◌, ◌≤◌, length, drop, map, OnO
 ghost use Rattle.trace_text.specs.Text.{fault_text};
 ghost use Rattle.play_core.specs.Devices.{writing, PutsAll, PutsPart};
 ghost use Rattle.play_core.specs.Ends.{LinesPut, StopPut};
+ghost use Rattle.play_core.specs.Runs.{TextPut};
 
-use crate::Step;
+use crate::{Status, Step};
 use source_sink::{Failed, Sink};
 use space_core::Space;
 use trace_text::{Line, TraceFault, fault_line};
@@ -27,6 +28,16 @@ pub(crate) fn put_all<K: Sink>(sink: &mut K, text: &[u8], space: &Space) -> Resu
         at += sink.put(from(text, at), space)?;
     }
     Ok(())
+}
+
+// Puts one text, which is all that is told.
+pub(crate) fn put_only<K: Sink>(sink: &mut K, text: &[u8], status: Status, space: &Space) -> Status
+    ensures { TextPut status text.now (writing K.holds K.faults sink.old) (writing K.holds K.faults sink.new) result }
+{
+    match put_all(sink, text, space) {
+        Ok(()) => status,
+        Err(_) => Status::WriteFault,
+    }
 }
 
 // Puts each line as a piece.

@@ -1,16 +1,16 @@
-use Rattle.std.proofs.Common.{refl, sym, ◌∙◌, subst, ◌<◌, ◌≤◌}
-use Rattle.play_core.proofs.WordLemmas.{number_stops, number_goes, number_exceeds}
+use Rattle.std.proofs.Common.{◌≢◌, ◌∙◌, arith, get_or}
+use Rattle.std.proofs.lemmas.Grind.{common_steps}
+use Rattle.play_core.proofs.Numbers.{number_none, number_some, plain_parsed}
 use Rattle.play_core.proofs.words.read_number.Goals as goal
 
-pub returns-then-not-is_ascii_digit-clause-number : goal.returns-then-not-is_ascii_digit-clause-number
-returns-then-not-is_ascii_digit-clause-number c = number_stops c.args.most c.args.digits.now c.loop-byte.byte-index _ c.requires c.loop-byte-test.true refl (sym c.is_ascii_digit.ensures.value ∙ c.if-not-is_ascii_digit.true)
+pub returns-in_err-number-clause-number : goal.returns-in_err-number-clause-number
+returns-in_err-number-clause-number c =
+    let byte = c.starts_with.ensures.byte (omega arith) (omega arith) (λ w o h. h) in
+    let plain : get_or c.args.digits.now 0 0 ≢ 43 = grind (arith, common_steps, byte, c.if-starts_with.false) in
+    c.from_residual.ensures ∙ number_none c.args.most c.args.digits.now c.parse.result (omega (arith, c.ranges.most.fits)) (plain_parsed c.args.digits.now c.parse.result c.parse.ensures.value.0 plain) c.in_err-number.ensures.value
 
-pub returns-then-value-from-clause-number : goal.returns-then-value-from-clause-number
-returns-then-value-from-clause-number c =
-    number_exceeds c.args.most c.args.digits.now c.loop-byte.byte-index _ c.loop-byte.value c.with_digit-value.result c.loop-byte-test.true refl (sym c.is_ascii_digit.ensures.value ∙ c.if-not-is_ascii_digit.false) c.loop-byte.invariant c.with_digit-value.ensures
-    (subst (λ n. n < c.with_digit-value.result) c.from.ensures c.if-value-from.true)
-
-pub loop-byte-preserved : goal.loop-byte-preserved
-loop-byte-preserved c =
-    number_goes c.args.most c.args.digits.now c.loop-byte.byte-index _ c.loop-byte.value c.with_digit-value.result c.loop-byte-test.true refl (sym c.is_ascii_digit.ensures.value ∙ c.if-not-is_ascii_digit.false) c.loop-byte.invariant c.with_digit-value.ensures
-    (subst (λ n. c.with_digit-value.result ≤ n) c.from.ensures c.if-value-from.false)
+pub returns-then-number-most-clause-number : goal.returns-then-number-most-clause-number
+returns-then-number-most-clause-number c =
+    let byte = c.starts_with.ensures.byte (omega arith) (omega arith) (λ w o h. h) in
+    let plain : get_or c.args.digits.now 0 0 ≢ 43 = grind (arith, common_steps, byte, c.if-starts_with.false) in
+    number_some c.args.most c.in_ok-number.number c.args.digits.now c.parse.result (plain_parsed c.args.digits.now c.parse.result c.parse.ensures.value.0 plain) c.in_ok-number.ensures.value c.if-number-ge1.true c.if-number-most.true

@@ -1,0 +1,29 @@
+-- Check text: what is told of an expression.
+use Rattle.std.specs.Prelude.{ℕ, ◌++◌, ◌||◌, ◌∷◌, Bool, List, [], codes, if◌then◌else◌}
+use Rattle.std.specs.Fmt.{decimal}
+use Rattle.layer_rules.specs.declared.Offers.{Offers}
+use Rattle.layer_rules.specs.Offering.{alignment, offers}
+use Rattle.layer_rules.specs.Shape.{Shape, nodes}
+use Rattle.expr_reader.specs.Canonical.{canonical}
+use Rattle.expr_reader.specs.Trees.{Tree as Expression}
+use Rattle.play_core.specs.Asked.{root_of}
+
+-- a word behind a space, where it is offered
+abbrev pub offered : Bool → (word : List ℕ) → List ℕ
+offered is_offered word = if is_offered then 32 ∷ word else []
+
+-- each call that is offered, or none
+abbrev pub offers_text : Offers → List ℕ
+offers_text o =
+    if o.owns || (o.expand || (o.aligned || o.all))
+    then offered o.owns (codes "owns") ++ (offered o.expand (codes "expand") ++ (offered o.aligned (codes "aligned") ++ offered o.all (codes "all")))
+    else codes " none"
+
+-- the nodes of a shape, the alignment of its blocks, and what it offers, each on a line
+unfoldable pub shape_text : Shape → List ℕ
+shape_text s =
+    codes "nodes " ++ (decimal (nodes s) ++ (codes "\nalign " ++ (decimal (alignment s) ++ (codes "\noffers" ++ (offers_text (offers s) ++ codes "\n")))))
+
+-- the canonical text of an expression on a line, and those of its shape
+abbrev pub check_text : Expression → List ℕ
+check_text e = canonical e ++ (codes "\n" ++ shape_text (root_of e))
