@@ -106,7 +106,7 @@ good-of t m n l h u = alloc-good t.shape (layer-well t m l h) n (state_of t m) m
 pub allocated-stands : AllocateStands
 allocated-stands t t' m m' n r l h u a = sound-again t t' m m' h a.frame (served t m n).state (served t m n).cells a.state a.cells (good-of t m n l h u).settled
 
-answered : (b : Block) (o : Option Placed) → Some b ≡ block_in o → (p : Placed) × (o ≡ Some p) × (p.block ≡ b)
+pub answered : (b : Block) (o : Option Placed) → Some b ≡ block_in o → (p : Placed) × (o ≡ Some p) × (p.block ≡ b)
 answered b None e = absurd (cc)
 answered b (Some p) e = let q : p.block ≡ b = cc in (p, refl, q)
 

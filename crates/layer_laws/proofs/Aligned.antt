@@ -1,7 +1,6 @@
 -- The place of each block that is out is a multiple of the tree's alignment.
-use Rattle.std.proofs.Common.{◌≡◌, refl, sym, ap, subst, ◌∙◌, ℕ, zero, suc, ◌≤◌, ◌<◌, ◌+◌, ◌-◌, ◌*◌, ◌/◌, ◌%◌, ◌^◌, ◌⊎◌, inl, inr, true, arith, List, min}
-use Rattle.std.proofs.Math.Nat.{div-add-mod, mul_assoc, add-mul, mul-mod_left, pow-le-pow_right}
-use Rattle.std.proofs.lemmas.Nat.{pow-add}
+use Rattle.std.proofs.Common.{◌≡◌, refl, sym, subst, ℕ, zero, suc, ◌≤◌, ◌<◌, ◌+◌, ◌-◌, ◌⊎◌, inl, inr, true, arith, List, min}
+use Rattle.std.proofs.Math.Nat.{add-mul}
 use Rattle.std.proofs.lemmas.Bool.{cases_lt}
 use Rattle.layer_rules.specs.declared.Block.{Block}
 use Rattle.size_round.specs.Sizes.{RoundingKind, power_part}
@@ -24,31 +23,15 @@ use Rattle.layer_laws.proofs.Wellness.{IsWell, AreWell}
 use Rattle.layer_laws.proofs.Basics.{and-fst, opened, RegionParts, CacheParts}
 use Rattle.layer_laws.proofs.OutForms.{out-mem, out-region, out-freelist, out-quantize, out-stats, out-affix, out-segregate, seen_by}
 use Rattle.layer_laws.proofs.Covering.{settled-member, out-some_member}
+use Rattle.layer_laws.proofs.CellRooms.{multiple_of_multiple, power_in_power, multiple_from_rest, rest_of_multiple}
 
 -- ---- multiples
-
-pub multiple-of_mod : (n a : ℕ) → n % a ≡ 0 → IsMultiple n a
-multiple-of_mod n a h = (n / a, let d = div-add-mod n a in let c : a * (n / a) ≡ (n / a) * a = omega arith in omega arith)
-
-pub mod-of_multiple : (n a : ℕ) → IsMultiple n a → n % a ≡ 0
-mod-of_multiple n a (k, e) = rw e (mul-mod_left k a)
-
-pub multiple-then : (n b a : ℕ) → IsMultiple n b → IsMultiple b a → IsMultiple n a
-multiple-then n b a (k, e) (l, f) = (k * l, e ∙ ap (λ x. k * x) f ∙ sym (mul_assoc k l a))
 
 pub multiple-add : (m n a : ℕ) → IsMultiple m a → IsMultiple n a → IsMultiple (m + n) a
 multiple-add m n a (k, e) (l, f) = (k + l, rw (e, f, add-mul) refl)
 
 pub multiple-itself : (a : ℕ) → IsMultiple a a
 multiple-itself a = (1, omega arith)
-
--- of two powers of two the less divides the greater
-pub power-divides : (a b : ℕ) → IsPower a → IsPower b → a ≤ b → IsMultiple b a
-power-divides a b (i, e) (j, f) h =
-    elim (cases_lt j i) [
-      | inl l ↦ let w : 2 ^ j ≤ 2 ^ i = pow-le-pow_right (omega arith) (omega arith) in let q : b ≡ a = omega arith in subst (λ x. IsMultiple x a) (sym q) (multiple-itself a)
-      | inr l ↦ let s : j - i + i ≡ j = omega arith in (2 ^ (j - i), f ∙ (rw s at (pow-add 2 (j - i) i)) ∙ ap (λ x. 2 ^ (j - i) * x) (sym e))
-    ]
 
 min-is : (a b : ℕ) → (min a b ≡ a) × (a ≤ b) ⊎ (min a b ≡ b) × (b ≤ a)
 min-is a b = elim (cases_lt a b) [ inl l ↦ inl (omega arith, omega arith) | inr l ↦ inr (omega arith, l) ]
@@ -57,8 +40,8 @@ min-is a b = elim (cases_lt a b) [ inl l ↦ inl (omega arith, omega arith) | in
 pub min-divides : (a b : ℕ) → IsPower a → IsPower b → IsMultiple a (min a b) × IsMultiple b (min a b)
 min-divides a b p q =
     elim (min-is a b) [
-      | inl e ↦ (rw e.0 (multiple-itself a), rw e.0 (power-divides a b p q e.1))
-      | inr e ↦ (rw e.0 (power-divides b a q p e.1), rw e.0 (multiple-itself b))
+      | inl e ↦ (rw e.0 (multiple-itself a), rw e.0 (power_in_power a b p q e.1))
+      | inr e ↦ (rw e.0 (power_in_power b a q p e.1), rw e.0 (multiple-itself b))
     ]
 
 -- ---- the law
@@ -72,7 +55,7 @@ null-aligned b s cells h o = absurd (cc)
 
 mem-aligned : (tag : ℕ) → Aligning (mem tag)
 unfolding alignment
-mem-aligned tag b s cells h o = let x = out-mem tag b s cells o in multiple-of_mod b.place 64 x.aligned
+mem-aligned tag b s cells h o = let x = out-mem tag b s cells o in multiple_from_rest b.place 64 x.aligned
 
 region-aligned : (size align : ℕ) (e : Shape) → is_proper (region size align e) ≡ true → Aligning e → Aligning (region size align e)
 unfolding alignment
@@ -81,10 +64,10 @@ region-aligned size align e p law b s cells h o =
     let r = opened (region size align e) s cells (RegionParts size align e s cells) x.is_set h in
     let c = chunk_of s in
     let pe = (proper-region size align e p).1 in
-    let d = power-divides align (alignment e) (alignment_is_power (region size align e) p).power (alignment_is_power e pe).power (proper-align size align e p) in
-    let k = multiple-then c.place (alignment e) align (law c (child s 0) cells r.3 r.2.out) d in
+    let d = power_in_power align (alignment e) (alignment_is_power (region size align e) p).power (alignment_is_power e pe).power (proper-align size align e p) in
+    let k = multiple_of_multiple c.place (alignment e) align (law c (child s 0) cells r.3 r.2.out) d in
     let q : c.place + (b.place - c.place) ≡ b.place = omega (arith, x.from) in
-    subst (λ n. IsMultiple n align) q (multiple-add c.place (b.place - c.place) align k (multiple-of_mod (b.place - c.place) align x.aligned))
+    subst (λ n. IsMultiple n align) q (multiple-add c.place (b.place - c.place) align k (multiple_from_rest (b.place - c.place) align x.aligned))
 
 freelist-aligned : (least greatest : ℕ) (e : Shape) → Aligning e → Aligning (freelist least greatest e)
 unfolding alignment
@@ -115,7 +98,7 @@ behind-aligned (suc n) a place p l h =
     let part = power_part (suc n) (suc n) in
     let d = min-divides a part p g.has.0 in
     let q : (place - suc n) + suc n ≡ place = omega arith in
-    subst (λ x. IsMultiple x (min a part)) q (multiple-add (place - suc n) (suc n) (min a part) (multiple-then (place - suc n) a (min a part) h d.0) (multiple-then (suc n) part (min a part) g.has.1 d.1))
+    subst (λ x. IsMultiple x (min a part)) q (multiple-add (place - suc n) (suc n) (min a part) (multiple_of_multiple (place - suc n) a (min a part) h d.0) (multiple_of_multiple (suc n) part (min a part) g.has.1 d.1))
 
 affix-aligned : (prefix suffix : ℕ) (e : Shape) → is_proper e ≡ true → Aligning e → Aligning (affix prefix suffix e)
 unfolding alignment
@@ -141,7 +124,7 @@ least-divides (member e es) zero p l =
     let q = member_parts e es p in (min-divides (alignment e) (least_alignment es) (alignment_is_power e q.0).power (least-power es q.1)).0
 least-divides (member e es) (suc i) p l =
     let q = member_parts e es p in
-    multiple-then (alignment (nth_member es i)) (least_alignment es) (min (alignment e) (least_alignment es)) (least-divides es i q.1 (omega arith))
+    multiple_of_multiple (alignment (nth_member es i)) (least_alignment es) (min (alignment e) (least_alignment es)) (least-divides es i q.1 (omega arith))
     (min-divides (alignment e) (least_alignment es) (alignment_is_power e q.0).power (least-power es q.1)).1
 
 segregate-aligned : (ts : List ℕ) (es : Shapes) → are_proper es ≡ true → ((i : ℕ) → Aligning (nth_member es i)) → Aligning (segregate ts es)
@@ -151,7 +134,7 @@ segregate-aligned ts es p law b s cells h o =
     let x = out-segregate ts es b s cells o in
     let r = opened (segregate ts es) s cells (IsGroup (member_count es) s × AreSettled es 0 s cells) x.is_set h in
     let l = out-some_member es i b (child s i) cells x.below in
-    multiple-then b.place (alignment (nth_member es i)) (least_alignment es) (law i b (child s i) cells (settled-member es i s cells r.1 l) x.below) (least-divides es i p l)
+    multiple_of_multiple b.place (alignment (nth_member es i)) (least_alignment es) (law i b (child s i) cells (settled-member es i s cells r.1 l) x.below) (least-divides es i p l)
 
 mutual
   pub aligned : (e : Shape) → is_proper e ≡ true → IsWell e → Aligning e
@@ -176,4 +159,4 @@ mutual
 
 pub out-aligned : OutIsAligned
 out-aligned t m b l h o =
-    mod-of_multiple b.place (alignment t.shape) (aligned t.shape (and-fst _ _ l.proper) (layer-well t m l h) b (state_of t m) m.cells h.sound.settled o)
+    rest_of_multiple b.place (alignment t.shape) (aligned t.shape (and-fst _ _ l.proper) (layer-well t m l h) b (state_of t m) m.cells h.sound.settled o)

@@ -1,5 +1,6 @@
 -- `owns` answers what `holds` says. On a no it leaves all but statistics.
 use Rattle.std.proofs.Common.{◌≡◌, refl, sym, ◌∙◌, ap, ap₂, ℕ, zero, suc, Bool, true, false, ◌&&◌, ◌||◌, List, [], ◌∷◌, nat_le}
+use Rattle.std.proofs.Math.Bool.{and_assoc}
 use Rattle.std.specs.List.{list_any}
 use Rattle.layer_rules.specs.declared.Block.{Block}
 use Rattle.layer_rules.specs.Counting.{count_owns}
@@ -138,10 +139,6 @@ owned-ask_members es (i ∷ is) b s k =
 owned-ask_if : (fine : Bool) (ask : Ask) (b : Block) (s : State) (x : Bool) → (ask b s).owned ≡ x → (ask_if fine ask b s).owned ≡ (fine && x)
 owned-ask_if true ask b s x h = h
 owned-ask_if false ask b s x h = refl
-
-and_assoc : (x y z : Bool) → (x && y) && z ≡ x && (y && z)
-and_assoc true y z = refl
-and_assoc false y z = refl
 
 mutual
   unfolding ask holds

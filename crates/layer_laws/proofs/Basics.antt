@@ -14,10 +14,6 @@ pub and-snd : (a b : Bool) → (a && b) ≡ true → b ≡ true
 and-snd true b h = h
 and-snd false b h = absurd (cc)
 
-pub both : (a b : Bool) → a ≡ true → b ≡ true → (a && b) ≡ true
-both true b h k = k
-both false b h k = absurd (cc)
-
 opened_by : (P Q : Type 0) (b : Bool) → b ≡ true → MatchBool b P Q → P
 opened_by P Q true o h = h
 opened_by P Q false o h = absurd (cc)

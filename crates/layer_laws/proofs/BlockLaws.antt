@@ -12,8 +12,8 @@ byte_in b k h l = grind (arith, nat_tests)
 byte_from : (b : Block) (k : ℕ) → has_place b k ≡ true → (b.place ≤ k) × (k < end_of b)
 byte_from b k h = (grind (arith, nat_tests), grind (arith, nat_tests))
 
-lies : (b outer : Block) → outer.place ≤ b.place → end_of b ≤ end_of outer → lies_in b outer ≡ true
-lies b outer h l = grind (arith, nat_tests)
+pub inside-of : (b outer : Block) → outer.place ≤ b.place → end_of b ≤ end_of outer → lies_in b outer ≡ true
+inside-of b outer h l = grind (arith, nat_tests)
 
 lies_from : (b outer : Block) → lies_in b outer ≡ true → (outer.place ≤ b.place) × (end_of b ≤ end_of outer)
 lies_from b outer h = (grind (arith, nat_tests), grind (arith, nat_tests))
@@ -24,7 +24,7 @@ lies_in_by_bytes b outer h = (
   λ f.
       let low = byte_from outer b.place (f b.place (byte_in b b.place (omega arith) (omega arith))) in
       let high = byte_from outer (end_of b - 1) (f (end_of b - 1) (byte_in b (end_of b - 1) (omega arith) (omega arith))) in
-      lies b outer (omega arith) (omega arith),
+      inside-of b outer (omega arith) (omega arith),
 )
 
 not_in : (c : Block) (k : ℕ) → (c.place ≤ k → k < end_of c → ⊥) → has_place c k ≡ false

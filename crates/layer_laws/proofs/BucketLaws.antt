@@ -1,6 +1,6 @@
 -- The member for a length, and buckets.
 use Rattle.std.proofs.Common.{◌≡◌, refl, ap, ℕ, zero, suc, ◌+◌, ◌-◌, ◌*◌, ◌/◌, ◌<◌, ◌≤◌, Bool, true, false, nat_le, nat_lt, ◌&&◌, cond, List, [], ◌∷◌, length, slice_index, arith}
-use Rattle.std.proofs.Math.Nat.{mul-le-mul_right}
+use Rattle.std.proofs.Math.Nat.{mul-le-mul_right, lt_of_mul-lt-mul_right}
 use Rattle.std.proofs.lemmas.Nat.{div-add-mod', mod_below}
 use Rattle.std.proofs.lemmas.Bool.Decides.{nat_tests}
 use Rattle.size_round.specs.Sizes.{limit}
@@ -8,7 +8,6 @@ use Rattle.layer_rules.specs.Shape.{member_count}
 use Rattle.layer_rules.specs.Offering.{member_for, in_range, bucket_for, bucket_size, bucketed}
 use Rattle.layer_rules.specs.Proper.{are_thresholds}
 use Rattle.layer_laws.specs.ShapeMeanings.{IsFirstNotBelow, MemberForIsFirst, AreAscending, ThresholdsAreAscending, HasMemberFor, BucketHasItsLengths, ProperHasBucket}
-use Rattle.size_round.proofs.UpLeast.{less_factor}
 use Rattle.layer_laws.proofs.ProperParts.{segregate_parts, bucket_parts}
 
 -- ---- the member for a length
@@ -84,8 +83,8 @@ one_quotient x q step h l m =
     let b = quotient_between x step h in
     let next : suc q * step ≡ q * step + step = grind arith in
     let after : suc (x / step) * step ≡ x / step * step + step = grind arith in
-    let low : q < suc (x / step) = less_factor q (suc (x / step)) step (omega arith) in
-    let high : x / step < suc q = less_factor (x / step) (suc q) step (omega arith) in
+    let low : q < suc (x / step) = lt_of_mul-lt-mul_right step (omega arith) in
+    let high : x / step < suc q = lt_of_mul-lt-mul_right step (omega arith) in
     omega arith
 
 bucket_size_is : (least step n : ℕ) → bucket_size least step n ≡ least + (bucket_for least step n * step + step) - 1
@@ -113,7 +112,7 @@ proper_has_bucket least greatest step es n h r =
     let some = p.some in
     let b = quotient_between (n - least) step p.stepped in
     let whole : greatest + 1 - least ≡ member_count es * step = omega (arith, div-add-mod' (greatest + 1 - least) step, p.whole, ap (λ x. x * step) p.count) in
-    let there : bucket_for least step n < member_count es = less_factor (bucket_for least step n) (member_count es) step (omega arith) in
+    let there : bucket_for least step n < member_count es = lt_of_mul-lt-mul_right step (omega arith) in
     let next : suc (bucket_for least step n) * step ≡ bucket_for least step n * step + step = grind arith in
     let top : suc (bucket_for least step n) * step ≤ member_count es * step = mul-le-mul_right step there in
     let e = bucket_size_is least step n in

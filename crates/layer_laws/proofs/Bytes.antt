@@ -1,9 +1,9 @@
 -- Changes of the Space's bytes, and what words and chains stay.
 use Rattle.std.proofs.Common.{◌≡◌, refl, ap, ◌∙◌, ℕ, zero, suc, ◌≤◌, ◌<◌, ◌+◌, ◌-◌, ◌⊎◌, inl, inr, Bool, true, false, arith, List, [], ◌∷◌, get_or, length, take, drop, length-drop, nat_le}
+use Rattle.std.proofs.lemmas.List.{get_or-drop}
 use Rattle.std.specs.Int.{from_le_bytes, w64}
 use Rattle.space_core.specs.Words.{word_at, has_bytes, IsWordAt}
 use Rattle.layer_rules.specs.Chains.{first_of, IsChain, read_chain}
-use Rattle.layer_laws.proofs.Runs.{get_or-drop}
 
 -- no byte from lo up to hi changes, nor how many there are
 pub record KeptBytes (old new : List ℕ) (lo hi : ℕ) : Type 0 where
@@ -38,7 +38,7 @@ take-same (suc n) (x ∷ xs) (y ∷ ys) l h =
 pub word_at-same : (old new : List ℕ) (p : ℕ) → KeptBytes old new p (p + 8) → word_at new p ≡ word_at old p
 word_at-same old new p k =
     ap (from_le_bytes w64) (take-same (p + 8 - p) (drop p old) (drop p new) (rw (length-drop p new, length-drop p old, k.length_same) refl)
-    (λ i l. rw (get_or-drop p i new 0, get_or-drop p i old 0) (k.at (p + i) (omega arith) (omega arith))))
+    (λ i l. rw (get_or-drop p new i 0, get_or-drop p old i 0) (k.at (p + i) (omega arith) (omega arith))))
 
 pub IsWordAt-same : (old new : List ℕ) (p n : ℕ) → KeptBytes old new p (p + 8) → IsWordAt old p n → IsWordAt new p n
 IsWordAt-same old new p n k w = record { inside = rw k.length_same w.inside; value = word_at-same old new p k ∙ w.value }

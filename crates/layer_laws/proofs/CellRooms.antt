@@ -2,14 +2,14 @@
 use Rattle.std.proofs.Common.{◌≡◌, refl, sym, ◌∙◌, ap, subst, ℕ, ◌+◌, ◌-◌, ◌*◌, ◌/◌, ◌%◌, ◌^◌, ◌≤◌, ⊎_elim, max, true, false, nat_eq, arith}
 use Rattle.std.proofs.Math.Nat.{mul_assoc, mul-mod_left, mul_comm}
 use Rattle.std.proofs.lemmas.Nat.{pow-add, pow_below, div-add-mod'}
-use Rattle.std.proofs.lemmas.Bool.{cases_lt, false≢true}
+use Rattle.std.proofs.lemmas.Bool.{cases_lt, false≢true, false_from_ne_true}
 use Rattle.std.proofs.lemmas.Bool.Decides.{nat_tests}
 use Rattle.size_round.specs.Sizes.{ceil_div}
 use Rattle.space_core.specs.Cells.{cell_size, taken_cells, is_aligned_cell}
 use Rattle.size_round.specs.SizeMeanings.{IsMultiple, IsPower}
 use Rattle.layer_laws.specs.UnitMeanings.{has_room, LeastCellsAreLeast, NoCells}
 use Rattle.size_round.proofs.UpLeast.{enough_times}
-use Rattle.layer_laws.proofs.FirstRuns.{not_true, run_within, first_run_is_first, no_first_run}
+use Rattle.layer_laws.proofs.FirstRuns.{run_within, first_run_is_first, no_first_run}
 
 pub multiple_of_multiple : (n b a : ℕ) → IsMultiple n b → IsMultiple b a → IsMultiple n a
 multiple_of_multiple n b a (k, e) (j, f) = (k * j, e ∙ ap (λ x. k * x) f ∙ sym (mul_assoc k j a))
@@ -65,7 +65,7 @@ least_cells_are_least n a cells i p e =
     }
 
 pub no_cells : NoCells
-no_cells n a cells h p e j m = not_true (has_room n cells j) (λ t.
+no_cells n a cells h p e j m = false_from_ne_true (has_room n cells j) (λ t.
     let within = run_within (taken_cells cells) j (ceil_div n cell_size) (some_cells n h) t in
     let none = no_first_run (λ k. is_aligned_cell a k) (ceil_div n cell_size) 0 (taken_cells cells) e j (omega arith) (omega arith) (cell_aligned a j m) in
     let here = subst (λ k. has_room n cells k ≡ false) (less_zero j) none in

@@ -3,7 +3,8 @@ use Rattle.std.proofs.Common.{◌≡◌, refl, ℕ, nat_le, ◌≤◌, ◌<◌, 
 use Rattle.std.proofs.lemmas.Bool.Decides.{nat_tests}
 use Rattle.layer_rules.specs.declared.Block.{Block}
 use Rattle.layer_rules.specs.Blocks.{end_of}
-use Rattle.size_round.specs.Sizes.{up, RoundingKind}
+use Rattle.size_round.specs.Sizes.{RoundingKind}
+use Rattle.size_round.proofs.UpLeast.{enough_times}
 use Rattle.space_core.specs.Cells.{Cells}
 use Rattle.layer_rules.specs.Offering.{cache_size}
 use Rattle.layer_rules.specs.Down.{cache_down, quantize_down, affix_down}
@@ -38,14 +39,11 @@ mem-covers tag b s cells h o =
     let x = out-mem tag b s cells o in
     record { some = omega (arith, x.some); from = omega (arith, x.some); upto = omega (arith, x.some); leaf = λ i a c. x.tagged (i / 64) (omega (arith, x.some)) (omega (arith, x.some)) }
 
-pub up-ge : (n a : ℕ) → 1 ≤ a → n ≤ up n a
-up-ge n a h = grind arith
-
 region-covers : (size align : ℕ) (e : Shape) → IsRegionSize align → Covering e → Covering (region size align e)
 unfolding extent
 region-covers size align e w law b s cells h o =
     let x = out-region size align e b s cells o in
-    let g = up-ge b.len align w.some in
+    let g = enough_times b.len align w.some in
     let r = opened (region size align e) s cells (RegionParts size align e s cells) x.is_set h in
     let c = law (chunk_of s) (child s 0) cells r.3 r.2.out in
     record {

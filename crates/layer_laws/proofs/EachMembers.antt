@@ -1,30 +1,19 @@
 -- What holds of members together and of each.
-use Rattle.std.proofs.Common.{◌≡◌, refl, ℕ, zero, suc, ◌<◌, ◌≤◌, ◌⊎◌, inl, inr, ⊎_elim, min, Bool, true, false, ◌&&◌, arith}
-use Rattle.std.proofs.lemmas.Bool.{cases_lt}
+use Rattle.std.proofs.Common.{◌≡◌, refl, ℕ, zero, suc, ◌<◌, ◌≤◌, ◌⊎◌, inl, inr, ⊎_elim, min, Bool, true, ◌&&◌, arith}
+use Rattle.std.proofs.lemmas.Bool.{cases_lt, and_from}
 use Rattle.layer_rules.specs.Shape.{Shape, Shapes, no_members, member, member_count, nth_member}
 use Rattle.layer_rules.specs.Offering.{offers, members_offer, full_alignment, alignment, least_alignment}
 use Rattle.layer_rules.specs.Proper.{is_proper, are_proper, all_own}
 use Rattle.layer_laws.specs.ShapeMeanings.{EachMember, ProperMembers, OwningMembers, MembersOfferWhatEachOffers, IsLeastAlignment, AlignmentIsLeast}
-
-both : (a b : Bool) → a ≡ true → b ≡ true → (a && b) ≡ true
-both true b h l = l
-both false b h l = h
-
-first_holds : (a b : Bool) → (a && b) ≡ true → a ≡ true
-first_holds true b h = refl
-first_holds false b h = h
-
-second_holds : (a b : Bool) → (a && b) ≡ true → b ≡ true
-second_holds true b h = h
-second_holds false b h = cc
+use Rattle.layer_laws.proofs.Basics.{and-fst, and-snd}
 
 -- a test of members that asks the first, and then those behind it, asks each
 each-cons : (P : Shape → Bool) (e : Shape) (es : Shapes) (rest : Bool) → (rest ≡ true → EachMember (λ f. P f ≡ true) es) → (P e && rest) ≡ true → EachMember (λ f. P f ≡ true) (member e es)
-each-cons P e es rest h t zero l = first_holds (P e) rest t
-each-cons P e es rest h t (suc i) l = h (second_holds (P e) rest t) i (omega arith)
+each-cons P e es rest h t zero l = and-fst (P e) rest t
+each-cons P e es rest h t (suc i) l = h (and-snd (P e) rest t) i (omega arith)
 
 cons-each : (P : Shape → Bool) (e : Shape) (es : Shapes) (rest : Bool) → (EachMember (λ f. P f ≡ true) es → rest ≡ true) → EachMember (λ f. P f ≡ true) (member e es) → (P e && rest) ≡ true
-cons-each P e es rest h t = both (P e) rest (t 0 (omega arith)) (h (λ i l. t (suc i) (omega arith)))
+cons-each P e es rest h t = and_from (P e) rest (t 0 (omega arith)) (h (λ i l. t (suc i) (omega arith)))
 
 none-each : (P : Shape → Bool) → EachMember (λ f. P f ≡ true) no_members
 none-each P i l = absurd (omega arith)

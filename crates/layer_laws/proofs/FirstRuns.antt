@@ -7,14 +7,7 @@ use Rattle.space_core.specs.Runs.{starts_free, starts_taken, is_free_run, first_
 use Rattle.space_core.specs.Cells.{taken_cells, cells_with}
 use Rattle.layer_laws.specs.UnitMeanings.{AreAll, FreeRunsAreFree, TakenRunsAreTaken, FreeCellsAreUntagged, TaggedCellsHaveTheTag, IsFirstRun, FirstRunIsFirst, NoFirstRun}
 
-pub not_true : (b : Bool) → (b ≡ true → ⊥) → b ≡ false
-not_true true h = absurd (h refl)
-not_true false h = refl
-
 -- ---- element by element
-
-Starts : {A : Type 0} → A → List A → ℕ → Type 0
-Starts x xs n = (k : ℕ) → k < n → slice_get xs k ≡ Some x
 
 starts_free-each : (n : ℕ) (us : List Bool) → starts_free n us ≡ true → (k : ℕ) → k < n → slice_get us k ≡ Some false
 unfolding starts_free

@@ -1,11 +1,12 @@
 -- Framing: where bytes change only inside one block that is out, the tree's state and its bytes stay.
-use Rattle.std.proofs.Common.{◌≡◌, refl, sym, ap, subst, ℕ, zero, suc, ◌≤◌, ◌<◌, ◌+◌, ◌-◌, ◌⊎◌, inl, inr, true, arith, List, [], ◌∷◌}
+use Rattle.std.proofs.Common.{◌≡◌, refl, sym, ap, subst, ℕ, zero, suc, ◌≤◌, ◌<◌, ◌+◌, ◌-◌, ◌⊎◌, inl, inr, true, arith, List, [], ◌∷◌, zero-add}
 use Rattle.std.proofs.lemmas.Bool.{cases_eq}
 use Rattle.std.proofs.lemmas.Bool.Decides.{nat_tests}
 use Rattle.layer_rules.specs.declared.Block.{Block}
 use Rattle.layer_rules.specs.Blocks.{block, end_of, is_apart}
 use Rattle.layer_rules.specs.Rows.{Each}
 use Rattle.size_round.specs.Sizes.{RoundingKind, rounded}
+use Rattle.size_round.proofs.UpLeast.{enough_times}
 use Rattle.space_core.specs.Cells.{Cells}
 use Rattle.layer_rules.specs.Down.{cache_down, quantize_down, affix_down}
 use Rattle.layer_rules.specs.Ownership.{extent}
@@ -23,9 +24,9 @@ use Rattle.layer_laws.proofs.Rounding.{le-rounded}
 use Rattle.layer_rules.specs.Leaves.{IsLeaf}
 use Rattle.layer_laws.proofs.Wellness.{IsWell, AreWell, IsCacheSize, IsKind, IsRegionSize}
 use Rattle.layer_laws.proofs.OutForms.{out-quantize, out-stats, out-affix, out-freelist, out-segregate, out-region, seen_by, ApartFrom}
-use Rattle.layer_laws.proofs.Covering.{Covers, Covering, covers, covers_each, settled-member, up-ge, cache-ge, affix-extent, out-some_member}
+use Rattle.layer_laws.proofs.Covering.{Covers, Covering, covers, covers_each, settled-member, cache-ge, affix-extent, out-some_member}
 use Rattle.layer_laws.proofs.Bytes.{ChangesOnly, KeptBytes, WordsKept, IsChain-same, read_chain-same, wider, kept-apart}
-use Rattle.layer_laws.proofs.Members.{zero-add, image-member, beside}
+use Rattle.layer_laws.proofs.Members.{image-member, beside}
 use Rattle.layer_laws.proofs.OwnFraming.{OwnKept, Framed, OwnFraming, Any, own-framed_each, cleans-kept, affix-same, group-framed}
 
 -- the block itself, or one with an extent apart from its own
@@ -49,7 +50,7 @@ unfolding read_state
 region-framed size align e w law closed_fields old new cells b h i o k = absurd (let x = out-region size align e b _ cells o in let y = x.is_set in cc)
 region-framed size align e w law (open_fields kept fss) old new cells b h i o k =
     let x = out-region size align e b _ cells o in
-    let g = up-ge b.len align w.some in
+    let g = enough_times b.len align w.some in
     let chunk = kept_chunk kept in
     let f = law (nth_fields fss 0) old new cells chunk h.3 i.1 h.2.out (wider old new b.place (end_of b) chunk.place (end_of chunk) (omega (arith, x.from)) (omega (arith, x.upto, h.1.stop)) k) in
     record {

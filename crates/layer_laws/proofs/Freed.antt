@@ -1,9 +1,10 @@
 -- What giving a block back keeps: the record, and each form.
-use Rattle.std.proofs.Common.{◌≡◌, refl, sym, subst, ◌∙◌, ℕ, zero, suc, ◌≤◌, ◌<◌, ◌+◌, ◌-◌, ◌⊎◌, inl, inr, Bool, true, false, arith, List, [], ◌∷◌, get_or, nat_eq}
+use Rattle.std.proofs.Common.{◌≡◌, refl, sym, subst, ◌∙◌, ℕ, zero, suc, ◌≤◌, ◌<◌, ◌+◌, ◌-◌, ◌⊎◌, inl, inr, Bool, true, false, arith, List, [], ◌∷◌, get_or, nat_eq, zero-add}
 use Rattle.std.proofs.lemmas.Bool.Decides.{nat_tests}
 use Rattle.layer_rules.specs.declared.Block.{Block}
 use Rattle.layer_rules.specs.Blocks.{block, end_of, is_apart}
 use Rattle.size_round.specs.Sizes.{up, RoundingKind}
+use Rattle.size_round.proofs.UpLeast.{enough_times}
 use Rattle.space_core.specs.Cells.{Cells, tag_cells, cell_at, cells_touched}
 use Rattle.layer_rules.specs.Counting.{count_deallocate}
 use Rattle.layer_rules.specs.Offering.{good, in_range}
@@ -24,8 +25,8 @@ use Rattle.layer_laws.proofs.Wellness.{IsWell, AreWell, IsRegionSize}
 use Rattle.layer_laws.proofs.Basics.{opened, settle, at_form, RegionParts, CacheParts}
 use Rattle.layer_laws.proofs.Runs.{put_run-below, put_run-above, put_run-in}
 use Rattle.layer_laws.proofs.OutForms.{out-mem, mem-out, out-region, region-out, out-freelist, freelist-out, out-segregate, segregate-out, seen_by, ApartFrom}
-use Rattle.layer_laws.proofs.Covering.{up-ge, leaf-in, settled-member, out-some_member}
-use Rattle.layer_laws.proofs.Members.{zero-add, settled-from, beside}
+use Rattle.layer_laws.proofs.Covering.{leaf-in, settled-member, out-some_member}
+use Rattle.layer_laws.proofs.Members.{settled-from, beside}
 use Rattle.layer_laws.proofs.Framing.{seen-apart}
 use Rattle.layer_laws.proofs.Tags.{TagsKept, OutTags, SettledTags, out-tags_each, settled-tags_each, leaf-some_in, tag-in_range}
 use Rattle.layer_laws.proofs.Good.{three}
@@ -90,14 +91,14 @@ region-case size align e chunk p t cells b false q w h x = unchanged (region siz
 region-case size align e chunk p t cells b true q w h x =
     let old = open_with (region_own chunk p) (one_child t) in
     let new = open_with (region_own chunk b.place) (one_child t) in
-    let g = up-ge b.len align w.some in
+    let g = enough_times b.len align w.some in
     record {
       is_set = refl;
       settled = (record { form = refl; parent = h.0.parent }, record { len = h.1.len; start = x.from; stop = omega (arith, x.upto, h.1.stop); aligned = x.aligned }, h.2, h.3);
       extents = λ c. refl;
       stays = λ c o a.
           let y = out-region size align e c old cells o in
-          let k = up-ge c.len align w.some in
+          let k = enough_times c.len align w.some in
           region-out size align e c new cells (record {
             is_set = refl;
             some = y.some;

@@ -1,11 +1,14 @@
 -- What serving a request keeps, and what it says of the new block: the record, the guards, the leaf and the region.
-use Rattle.std.proofs.Common.{◌≡◌, refl, sym, ap, subst, ◌∙◌, ℕ, zero, suc, ◌≤◌, ◌<◌, ◌+◌, ◌-◌, ◌*◌, ◌/◌, ◌%◌, ◌⊎◌, inl, inr, Bool, true, false, not, arith, List, [], ◌∷◌, get_or, length, length-drop, drop, map, Option, Some, None, nat_eq, nat_lt, nat_le, max}
+use Rattle.std.proofs.Common.{◌≡◌, refl, sym, ap, subst, ◌∙◌, ℕ, ◌≤◌, ◌<◌, ◌+◌, ◌-◌, ◌*◌, ◌/◌, ◌%◌, ◌⊎◌, inl, inr, Bool, true, false, arith, [], get_or, length, length-drop, drop, Option, Some, None, nat_eq, nat_lt, nat_le, max}
 use Rattle.std.proofs.lemmas.Bool.Decides.{nat_tests}
+use Rattle.std.proofs.lemmas.List.{get_or-drop, length-map}
 use Rattle.layer_rules.specs.declared.Block.{Block}
 use Rattle.layer_rules.specs.Blocks.{block, end_of, is_apart}
 use Rattle.size_round.specs.Sizes.{limit, up, ceil_div}
+use Rattle.size_round.proofs.UpLeast.{enough_times}
 use Rattle.space_core.specs.Runs.{put_run}
 use Rattle.space_core.specs.Cells.{Cells, cell_size, taken_cells, tag_cells, least_cells}
+use Rattle.space_core.proofs.CellRuns.{starts_free-length}
 use Rattle.layer_rules.specs.Ownership.{extent}
 use Rattle.layer_rules.specs.Units.{touched_block}
 use Rattle.layer_rules.specs.Shape.{Shape, null, mem, region}
@@ -19,9 +22,8 @@ use Rattle.layer_laws.proofs.RegionLaws.{region_served_sound}
 use Rattle.layer_rules.specs.Leaves.{IsLeaf}
 use Rattle.layer_laws.proofs.Wellness.{IsRegionSize}
 use Rattle.layer_laws.proofs.Basics.{opened, settle, at_form, RegionParts}
-use Rattle.layer_laws.proofs.Runs.{starts_free-at, starts_free-length, get_or-drop, put_run-below, put_run-above, put_run-in, first_run-found}
+use Rattle.layer_laws.proofs.Runs.{starts_free-at, put_run-below, put_run-above, put_run-in, first_run-found, free-cell}
 use Rattle.layer_laws.proofs.OutForms.{out-mem, mem-out, out-region, region-out}
-use Rattle.layer_laws.proofs.Covering.{up-ge}
 
 pub record IsGood (e : Shape) (s : State) (cells : Cells) (n : ℕ) (r : After (Option Placed)) : Type 0 where
   pub is_set : is_open r.state ≡ true
@@ -60,15 +62,6 @@ runs-meet a b c d x y h = elim (which a b c d x y) [ inl l ↦ inl l | inr o ↦
     which : (a b c d : ℕ) → a < b → c < d → (b ≤ c) ⊎ (d ≤ a) ⊎ ((c ≤ a) × (a < d)) ⊎ ((a ≤ c) × (c < b))
     which a b c d h k = grind arith
 
-free-cell : (T : List ℕ) (c : ℕ) → get_or (map (λ t. not (nat_eq t 0)) T) c true ≡ false → get_or T c 0 ≡ 0
-free-cell [] c h = absurd (cc)
-free-cell (t ∷ T) zero h = grind (arith, nat_tests)
-free-cell (t ∷ T) (suc c) h = free-cell T c h
-
-length-map : (f : ℕ → Bool) (T : List ℕ) → length (map f T) ≡ length T
-length-map f [] = refl
-length-map f (t ∷ T) = ap suc (length-map f T)
-
 pub three : (lo hi i : ℕ) → (i < lo) ⊎ (hi ≤ i) ⊎ ((lo ≤ i) × (i < hi))
 three lo hi i = grind arith
 
@@ -84,7 +77,7 @@ found-free n a cells i l e =
     let free = rw z at f.free in
     let m = starts_free-length (ceil_div n cell_size) (drop i (taken_cells cells)) free in
     record {
-      free = λ c x y. let k = c - i in let q : i + k ≡ c = omega arith in free-cell cells.tags c (rw (get_or-drop i k (taken_cells cells) true, q) at (starts_free-at (ceil_div n cell_size) (drop i (taken_cells cells)) k free (omega arith)));
+      free = λ c x y. let k = c - i in let q : i + k ≡ c = omega arith in free-cell cells.tags c (rw (get_or-drop i (taken_cells cells) k true, q) at (starts_free-at (ceil_div n cell_size) (drop i (taken_cells cells)) k free (omega arith)));
       inside = let d : length (drop i (taken_cells cells)) ≡ length cells.tags - i = rw length-drop (rw length-map refl) in omega arith;
     }
 
@@ -151,7 +144,7 @@ unfolding extent
 region-serves-good size align e n chunk p t cells w l h r =
     let old = open_with (region_own chunk p) (one_child t) in
     let new = open_with (region_own chunk (p + up n align)) (one_child t) in
-    let g = up-ge n align w.some in
+    let g = enough_times n align w.some in
     record {
       is_set = refl;
       settled = (record { form = refl; parent = h.0.parent }, region_served_sound size align n p chunk w.some h.1 r, h.2, h.3);

@@ -1,5 +1,5 @@
 -- Serving by one of several members.
-use Rattle.std.proofs.Common.{◌≡◌, ◌≢◌, refl, sym, ap, subst, ◌∙◌, ℕ, zero, suc, ◌≤◌, ◌<◌, ◌+◌, ◌/◌, ◌⊎◌, inl, inr, true, arith, List, [], ◌∷◌, length, Option, Some, option_map}
+use Rattle.std.proofs.Common.{◌≡◌, ◌≢◌, refl, sym, ap, subst, ◌∙◌, ℕ, zero, suc, ◌≤◌, ◌<◌, ◌+◌, ◌/◌, ◌⊎◌, inl, inr, true, arith, List, [], ◌∷◌, length, Option, Some, option_map, zero-add}
 use Rattle.std.proofs.lemmas.Bool.{cases_eq}
 use Rattle.std.proofs.lemmas.Bool.Decides.{nat_tests}
 use Rattle.layer_rules.specs.declared.Block.{Block}
@@ -19,7 +19,7 @@ use Rattle.layer_laws.proofs.Wellness.{AreWell}
 use Rattle.layer_laws.proofs.Basics.{opened}
 use Rattle.layer_laws.proofs.OutForms.{out-segregate, segregate-out, seen_by}
 use Rattle.layer_laws.proofs.Covering.{leaf-in, settled-member, out-some_member, Covering}
-use Rattle.layer_laws.proofs.Members.{zero-add, settled-from, beside}
+use Rattle.layer_laws.proofs.Members.{settled-from, beside}
 use Rattle.layer_laws.proofs.Tags.{TagsKept, OutTags, SettledTags, leaf-some_in}
 use Rattle.layer_laws.proofs.Good.{IsGood, Good, asked-good, runs-meet}
 use Rattle.layer_laws.proofs.GoodThrough.{IsShown, shown-of}

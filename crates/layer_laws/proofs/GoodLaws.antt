@@ -7,8 +7,8 @@ use Rattle.layer_rules.specs.Shape.{Shape, null, mem, region, bitmap, kr, freeli
 use Rattle.layer_rules.specs.Offering.{in_range, member_for, bucketed, is_served_size, if_served, good, good_in}
 use Rattle.layer_rules.specs.Proper.{are_proper}
 use Rattle.layer_laws.specs.ShapeMeanings.{GoodIsEnough, GoodOfNothing, GoodAboveLimit}
-use Rattle.size_round.proofs.UpLeast.{up_is_least}
 use Rattle.size_round.proofs.KindLaws.{rounded_is_enough}
+use Rattle.size_round.proofs.UpLeast.{enough_times}
 use Rattle.layer_laws.proofs.BucketLaws.{bucketed_enough}
 use Rattle.layer_laws.proofs.ProperParts.{region_parts, bitmap_parts, freelist_parent, quantize_parts, stats_parent, affix_parent, segregate_parts, bucket_parts, fallback_parts, list_members, member_parts}
 
@@ -33,18 +33,15 @@ cache_enough least greatest n m h = go (in_range least greatest n) refl
     go true e = grind (arith, nat_tests)
     go false e = h
 
-up_enough : (n a : ℕ) → 1 ≤ a → n ≤ up n a
-up_enough n a h = (up_is_least n a h).enough
-
 mutual
   unfolding good
 
   pub good_is_enough : GoodIsEnough
   good_is_enough null n h = omega arith
-  good_is_enough (mem tag) n h = served_enough (λ m. up m cell_size) n (up_enough n cell_size (omega arith))
-  good_is_enough (region size align e) n h = served_enough (λ m. up m align) n (up_enough n align (region_parts size align e h).some)
-  good_is_enough (bitmap unit count e) n h = served_enough (λ m. up m unit) n (up_enough n unit (bitmap_parts unit count e h).0)
-  good_is_enough (kr size e) n h = served_enough (λ m. up m 16) n (up_enough n 16 (omega arith))
+  good_is_enough (mem tag) n h = served_enough (λ m. up m cell_size) n (enough_times n cell_size (omega arith))
+  good_is_enough (region size align e) n h = served_enough (λ m. up m align) n (enough_times n align (region_parts size align e h).some)
+  good_is_enough (bitmap unit count e) n h = served_enough (λ m. up m unit) n (enough_times n unit (bitmap_parts unit count e h).0)
+  good_is_enough (kr size e) n h = served_enough (λ m. up m 16) n (enough_times n 16 (omega arith))
   good_is_enough (freelist least greatest e) n h =
       served_enough (λ m. elim (in_range least greatest m) [ true ↦ greatest | false ↦ good e m ]) n
       (cache_enough least greatest n (good e n) (good_is_enough e n (freelist_parent least greatest e h)))

@@ -13,7 +13,8 @@ use Rattle.layer_rules.specs.State.{State, closed, open_with, is_open, mode_of, 
 use Rattle.layer_rules.specs.Soundness.{IsKr, HasFreeTail}
 use Rattle.layer_laws.specs.FreeTails.{TailIsFree}
 use Rattle.layer_laws.proofs.TailLaws.{free_tail}
-use Rattle.layer_laws.proofs.Rounding.{and_left, and_right, le_from_test}
+use Rattle.layer_laws.proofs.Rounding.{le_from_test}
+use Rattle.layer_laws.proofs.Basics.{and-fst, and-snd}
 
 -- fewer units from the same one on are free too
 pub starts_free-fewer : (k m : ℕ) (us : List Bool) → k ≤ m → starts_free m us ≡ true → starts_free k us ≡ true
@@ -47,8 +48,8 @@ run_of (suc n) k i us e h = found_run n 0 i us h
 -- where the tail has room, a run is there
 pub tail_has_run : (s : State) (n : ℕ) → TailIsFree s → 16 ≤ n → kr_tail_fits n s ≡ true → has_no_run (n / 16) (units_of s) ≡ false
 tail_has_run s n free h e =
-    let tail = free_tail (mode_of s) (HasFreeTail (chunk_of s) (position_of s) (units_of s)) (and_left (serves_tail (mode_of s)) (nat_le (position_of s + n) (end_of (chunk_of s))) e) free in
-    let room : position_of s + n ≤ end_of (chunk_of s) = le_from_test (position_of s + n) (end_of (chunk_of s)) (and_right (serves_tail (mode_of s)) (nat_le (position_of s + n) (end_of (chunk_of s))) e) in
+    let tail = free_tail (mode_of s) (HasFreeTail (chunk_of s) (position_of s) (units_of s)) (and-fst (serves_tail (mode_of s)) (nat_le (position_of s + n) (end_of (chunk_of s))) e) free in
+    let room : position_of s + n ≤ end_of (chunk_of s) = le_from_test (position_of s + n) (end_of (chunk_of s)) (and-snd (serves_tail (mode_of s)) (nat_le (position_of s + n) (end_of (chunk_of s))) e) in
     let i = (position_of s - (chunk_of s).place) / 16 in
     run_of (n / 16) (n / 16 - 1) i (units_of s) (omega arith)
     (starts_free-fewer (n / 16) ((end_of (chunk_of s) - position_of s) / 16) (drop i (units_of s)) (omega arith) tail.free)

@@ -23,7 +23,6 @@ pub mod GoodCache
 pub mod GoodGroup
 pub mod GoodLaws
 pub mod GoodThrough
-pub mod Inside
 pub mod KrTail
 pub mod Lives
 pub mod Marks
@@ -40,13 +39,10 @@ pub mod Parents
 pub mod PlaceLaws
 pub mod ProperParts
 pub mod Properness
-pub mod PutWord
-pub mod Quiet
 pub mod Refusals
 pub mod RefusedNodes
 pub mod RefusesUncounted
 pub mod RegionLaws
-pub mod Requests
 pub mod Rounding
 pub mod Routing
 pub mod RunWrites

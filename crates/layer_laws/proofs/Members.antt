@@ -1,5 +1,5 @@
 -- What holds of each member, by its number.
-use Rattle.std.proofs.Common.{◌≡◌, ◌≢◌, refl, ap₂, ℕ, zero, suc, ◌<◌, ◌+◌, inl, inr, arith, List}
+use Rattle.std.proofs.Common.{◌≡◌, ◌≢◌, refl, ap₂, ℕ, zero, suc, ◌<◌, ◌+◌, arith, List, zero-add}
 use Rattle.space_core.specs.Cells.{Cells}
 use Rattle.layer_rules.specs.Fields.{Fields, child_fields}
 use Rattle.layer_rules.specs.Shape.{Shapes, no_members, member, nth_member, member_count}
@@ -7,12 +7,9 @@ use Rattle.layer_rules.specs.State.{State, child, child_and}
 use Rattle.layer_rules.specs.Reading.{read_state, read_each}
 use Rattle.layer_rules.specs.InBand.{IsImage, AreImages}
 use Rattle.layer_rules.specs.Soundness.{IsSettled, AreSettled}
-use Rattle.layer_rules.specs.Leaves.{IsLeaf, IsLeafIn}
+use Rattle.layer_rules.specs.Leaves.{IsLeaf}
 use Rattle.layer_laws.proofs.Wellness.{AreWell}
 use Rattle.layer_laws.proofs.Covering.{leaf-in}
-
-pub zero-add : (j : ℕ) → 0 + j ≡ j
-zero-add j = omega arith
 
 pub settled-from : (es : Shapes) (i : ℕ) (s : State) (cells : Cells) → ((j : ℕ) → j < member_count es → IsSettled (nth_member es j) (child s (i + j)) cells) → AreSettled es i s cells
 settled-from no_members i s cells h = tt
@@ -42,11 +39,6 @@ read_each-same no_members i fs old new h = refl
 read_each-same (member e es) i fs old new h =
     ap₂ child_and (let q : i + 0 ≡ i = omega arith in rw q at (h 0 (omega arith)))
     (read_each-same es (suc i) fs old new (λ j l. let q : i + suc j ≡ suc i + j = omega arith in rw q at (h (suc j) (omega arith))))
-
-pub leaf-out_of : (es : Shapes) (i t : ℕ) → IsLeafIn es t → (j : ℕ) × IsLeaf (nth_member es j) t
-leaf-out_of no_members i t l = absurd l
-leaf-out_of (member e es) i t (inl l) = (0, l)
-leaf-out_of (member e es) i t (inr l) = let r = leaf-out_of es i t l in (suc r.0, r.1)
 
 -- two members have no tag in common
 pub beside : (es : Shapes) (i j t : ℕ) → AreWell es → i ≢ j → IsLeaf (nth_member es i) t → IsLeaf (nth_member es j) t → ⊥

@@ -20,7 +20,8 @@ use Rattle.layer_laws.proofs.KrTail.{refuses-kr, tail_if_open}
 use Rattle.layer_laws.proofs.Saving.{OfChildren, Opens, saves-serve_member}
 use Rattle.layer_laws.proofs.TailLaws.{AnyCells, two_members, two-tails, saves_at-any, alloc_tails, alloc_in_tails, open_in_tails}
 use Rattle.layer_rules.specs.Proper.{is_proper, are_proper, is_proper_kind, is_between, is_multiple, size_bound, are_thresholds, all_own}
-use Rattle.layer_laws.proofs.Rounding.{and_left, and_right, le_from_test, le-rounded}
+use Rattle.layer_laws.proofs.Rounding.{le_from_test, le-rounded}
+use Rattle.layer_laws.proofs.Basics.{and-fst, and-snd}
 
 -- no block is answered
 abbrev pub is_refusal : After (Option Placed) → Bool
@@ -166,13 +167,13 @@ refusal-list es n s cells w h =
     ∙ ap₂ (λ o c. closed_refuses o open_member rule c) (closed_left-same true s r.state kept.1) kept.0)
 
 pub last_of_four : (a b c d : Bool) → (a && (b && (c && d))) ≡ true → d ≡ true
-last_of_four a b c d w = and_right c d (and_right b (c && d) (and_right a (b && (c && d)) w))
+last_of_four a b c d w = and-snd c d (and-snd b (c && d) (and-snd a (b && (c && d)) w))
 
 pub last_of_six : (a b c d e f : Bool) → (a && (b && (c && (d && (e && f))))) ≡ true → f ≡ true
-last_of_six a b c d e f w = last_of_four c d e f (and_right b (c && (d && (e && f))) (and_right a (b && (c && (d && (e && f)))) w))
+last_of_six a b c d e f w = last_of_four c d e f (and-snd b (c && (d && (e && f))) (and-snd a (b && (c && (d && (e && f)))) w))
 
 pub third_of_six : (a b c d e f : Bool) → (a && (b && (c && (d && (e && f))))) ≡ true → c ≡ true
-third_of_six a b c d e f w = and_left c (d && (e && f)) (and_right b (c && (d && (e && f))) (and_right a (b && (c && (d && (e && f)))) w))
+third_of_six a b c d e f w = and-fst c (d && (e && f)) (and-snd b (c && (d && (e && f))) (and-snd a (b && (c && (d && (e && f)))) w))
 
 pub some_bucket : (least step k : ℕ) → 1 ≤ least → 1 ≤ step → 1 ≤ least + step * (k + 1) - 1
 some_bucket least step k h l = grind arith
@@ -192,15 +193,15 @@ mutual
       refusal-asked_for n (kr_serve (up n 16) n) s cells (not (kr_tail_fits (up n 16) s) && has_no_run (up n 16 / 16) (units_of s)) h (refusal-kr (up n 16) n s cells)
       ∙ sym (refuses-kr size e n s cells (tail_if_open s t.0) h)
   none_exactly (freelist least greatest e) n s cells w t h =
-      let proper = and_right (nat_le least greatest) (is_proper e) (and_right (is_between 8 size_bound greatest) (nat_le least greatest && is_proper e) w) in
-      let some : 8 ≤ greatest = le_from_test 8 greatest (and_left (nat_le 8 greatest) (nat_le greatest size_bound) (and_left (is_between 8 size_bound greatest) (nat_le least greatest && is_proper e) w)) in
+      let proper = and-snd (nat_le least greatest) (is_proper e) (and-snd (is_between 8 size_bound greatest) (nat_le least greatest && is_proper e) w) in
+      let some : 8 ≤ greatest = le_from_test 8 greatest (and-fst (nat_le 8 greatest) (nat_le greatest size_bound) (and-fst (is_between 8 size_bound greatest) (nat_le least greatest && is_proper e) w)) in
       refusal-asked_for n (cache_serve (in_range least greatest n) n (λ u p. route e (block p greatest) (child u 0)) (alloc e greatest) (alloc e n)) s cells
       (cond (in_range least greatest n) (cache_is_empty s && refuses e greatest (child s 0) cells) (refuses e n (child s 0) cells)) h
       (refusal-cache_serve (in_range least greatest n) n (λ u p. route e (block p greatest) (child u 0)) (alloc e greatest) (alloc e n) s cells (refuses e greatest (child s 0) cells) (refuses e n (child s 0) cells)
       (none_exactly e greatest (child s 0) cells proper t (omega arith)) (none_exactly e n (child s 0) cells proper t h))
   none_exactly (quantize kind e) n s cells w t h =
-      let proper = and_right (is_proper_kind kind) (is_proper e) w in
-      let more = le-rounded kind n (and_left (is_proper_kind kind) (is_proper e) w) in
+      let proper = and-snd (is_proper_kind kind) (is_proper e) w in
+      let more = le-rounded kind n (and-fst (is_proper_kind kind) (is_proper e) w) in
       refusal-asked_for n (serve_parent (truncated n) (alloc e (rounded kind n))) s cells (refuses e (rounded kind n) (child s 0) cells) h
       (refusal-below (truncated n) 0 (alloc e (rounded kind n)) s (child s 0) cells (refuses e (rounded kind n) (child s 0) cells) (none_exactly e (rounded kind n) (child s 0) cells proper t (omega arith)))
   none_exactly (stats e) n s cells w t h =
@@ -218,7 +219,7 @@ mutual
   none_exactly (buckets least greatest step es) n s cells w t h =
       let proper = last_of_six (is_between 1 size_bound least) (is_between least size_bound greatest) (nat_le 1 step) (is_multiple (greatest + 1 - least) step)
       (nat_eq (member_count es) ((greatest + 1 - least) / step)) (are_proper es) w in
-      let some_least = le_from_test 1 least (and_left (nat_le 1 least) (nat_le least size_bound) (and_left (is_between 1 size_bound least)
+      let some_least = le_from_test 1 least (and-fst (nat_le 1 least) (nat_le least size_bound) (and-fst (is_between 1 size_bound least)
       (is_between least size_bound greatest && (nat_le 1 step && (is_multiple (greatest + 1 - least) step && (nat_eq (member_count es) ((greatest + 1 - least) / step) && are_proper es)))) w)) in
       let some_step = le_from_test 1 step (third_of_six (is_between 1 size_bound least) (is_between least size_bound greatest) (nat_le 1 step) (is_multiple (greatest + 1 - least) step)
       (nat_eq (member_count es) ((greatest + 1 - least) / step)) (are_proper es) w) in
@@ -228,13 +229,13 @@ mutual
       (refusal-bucket_serve (in_range least greatest n) n i (alloc_in es i m) s cells (refuses_in es i m (child s i) cells)
       (none_exactly_in es i m (child s i) cells proper (t i) (some_bucket least step (bucket_for least step n) some_least some_step)))
   none_exactly (fallback p f) n s cells w t h =
-      let both = and_right (offers p).owns (is_proper p && is_proper f) w in
-      let proper_p = and_left (is_proper p) (is_proper f) both in
-      let proper_f = and_right (is_proper p) (is_proper f) both in
+      let both = and-snd (offers p).owns (is_proper p && is_proper f) w in
+      let proper_p = and-fst (is_proper p) (is_proper f) both in
+      let proper_f = and-snd (is_proper p) (is_proper f) both in
       refusal-asked_for n (fallback_serve (alloc p n) (alloc f n)) s cells (refuses p n (child s 0) cells && refuses f n (child s 1) cells) h
       (refusal-fallback p f n s cells t.0 t.1 (λ u c k. none_exactly p n u c proper_p k h) (λ u c k. none_exactly f n u c proper_f k h))
   none_exactly (list es) n s cells w t h =
-      let proper = and_right (all_own es) (are_proper es) (and_right (is_between 1 4096 (member_count es)) (all_own es && are_proper es) w) in
+      let proper = and-snd (all_own es) (are_proper es) (and-snd (is_between 1 4096 (member_count es)) (all_own es && are_proper es) w) in
       let open_member : ℕ → Cells → Opening = λ i c. open_in es i n c in
       refusal-asked_for n (list_serve true (λ i. alloc_in es i n) open_member) s cells
       (list_all (λ i. refuses_in es i n (child s i) cells) (order_of s) && fresh_refuses true open_member (λ i t c. refuses_in es i n t c) s cells) h
@@ -242,8 +243,8 @@ mutual
 
   pub none_exactly_in : (es : Shapes) (i n : ℕ) (s : State) (cells : Cells) → are_proper es ≡ true → MemberHasFreeTails es i s → 1 ≤ n → is_refusal (alloc_in es i n s cells) ≡ refuses_in es i n s cells
   none_exactly_in no_members i n s cells w t h = refl
-  none_exactly_in (member e es) zero n s cells w t h = none_exactly e n s cells (and_left (is_proper e) (are_proper es) w) t h
-  none_exactly_in (member e es) (suc i) n s cells w t h = none_exactly_in es i n s cells (and_right (is_proper e) (are_proper es) w) t h
+  none_exactly_in (member e es) zero n s cells w t h = none_exactly e n s cells (and-fst (is_proper e) (are_proper es) w) t h
+  none_exactly_in (member e es) (suc i) n s cells w t h = none_exactly_in es i n s cells (and-snd (is_proper e) (are_proper es) w) t h
 
 -- and a request of 0 bytes is always answered with none
 pub none_for_none : (e : Shape) (s : State) (cells : Cells) → is_refusal (alloc e 0 s cells) ≡ true

@@ -12,10 +12,11 @@ use Rattle.layer_rules.specs.State.{State, child, position_of, order_of, uncount
 use Rattle.layer_laws.proofs.Refusals.{alloc_at_refused, alloc_at_in_refused, keeps-serve_member, keeps-first_serving}
 use Rattle.layer_laws.proofs.RefusesUncounted.{refuses_at-uncounted, refuses_at_in-uncounted}
 use Rattle.layer_rules.specs.Proper.{is_proper, are_proper, is_proper_kind, is_between, is_multiple, size_bound, are_thresholds, all_own}
-use Rattle.layer_laws.proofs.Rounding.{and_left, and_right, le_from_test, le-rounded}
+use Rattle.layer_laws.proofs.Rounding.{le_from_test, le-rounded}
 use Rattle.std.specs.Bool.{⊤}
 use Rattle.layer_laws.proofs.Saving.{Opens}
 use Rattle.layer_laws.proofs.NoneExactly.{is_refusal, refusal-asked_for, refusal-below, refusal-mem, refusal-region, refusal-bucket_serve, refusal-stats, refusal-answer_or, refusal-front_answer_or, child-same, refusal-serve_closed, closed_left-same, last_of_four, last_of_six, third_of_six, some_bucket}
+use Rattle.layer_laws.proofs.Basics.{and-fst, and-snd}
 
 refuses_at-same : (e : Shape) (n a : ℕ) (s t : State) (cells : Cells) → uncounted s ≡ uncounted t → refuses_at e n a s cells ≡ refuses_at e n a t cells
 refuses_at-same e n a s t cells h = sym (refuses_at-uncounted e n a s cells) ∙ ap (λ u. refuses_at e n a u cells) h ∙ refuses_at-uncounted e n a t cells
@@ -87,8 +88,8 @@ mutual
   none_exactly_at (bitmap unit count e) n a s cells w h =
       refusal-asked_for n (bitmap_serve_at unit n a) s cells (is_none (bitmap_place_at unit n (max a 16) s)) h (refusal-bitmap_at unit n a s cells)
   none_exactly_at (quantize kind e) n a s cells w h =
-      let proper = and_right (is_proper_kind kind) (is_proper e) w in
-      let more = le-rounded kind n (and_left (is_proper_kind kind) (is_proper e) w) in
+      let proper = and-snd (is_proper_kind kind) (is_proper e) w in
+      let more = le-rounded kind n (and-fst (is_proper_kind kind) (is_proper e) w) in
       refusal-asked_for n (serve_parent (truncated n) (alloc_at e (rounded kind n) a)) s cells (refuses_at e (rounded kind n) a (child s 0) cells) h
       (refusal-below (truncated n) 0 (alloc_at e (rounded kind n) a) s (child s 0) cells (refuses_at e (rounded kind n) a (child s 0) cells) (none_exactly_at e (rounded kind n) a (child s 0) cells proper (omega arith)))
   none_exactly_at (stats e) n a s cells w h =
@@ -101,7 +102,7 @@ mutual
   none_exactly_at (buckets least greatest step es) n a s cells w h =
       let proper = last_of_six (is_between 1 size_bound least) (is_between least size_bound greatest) (nat_le 1 step) (is_multiple (greatest + 1 - least) step)
       (nat_eq (member_count es) ((greatest + 1 - least) / step)) (are_proper es) w in
-      let some_least = le_from_test 1 least (and_left (nat_le 1 least) (nat_le least size_bound) (and_left (is_between 1 size_bound least)
+      let some_least = le_from_test 1 least (and-fst (nat_le 1 least) (nat_le least size_bound) (and-fst (is_between 1 size_bound least)
       (is_between least size_bound greatest && (nat_le 1 step && (is_multiple (greatest + 1 - least) step && (nat_eq (member_count es) ((greatest + 1 - least) / step) && are_proper es)))) w)) in
       let some_step = le_from_test 1 step (third_of_six (is_between 1 size_bound least) (is_between least size_bound greatest) (nat_le 1 step) (is_multiple (greatest + 1 - least) step)
       (nat_eq (member_count es) ((greatest + 1 - least) / step)) (are_proper es) w) in
@@ -111,13 +112,13 @@ mutual
       (refusal-bucket_serve (in_range least greatest n) n i (alloc_at_in es i m a) s cells (refuses_at_in es i m a (child s i) cells)
       (none_exactly_at_in es i m a (child s i) cells proper (some_bucket least step (bucket_for least step n) some_least some_step)))
   none_exactly_at (fallback p f) n a s cells w h =
-      let both = and_right (offers p).owns (is_proper p && is_proper f) w in
-      let proper_p = and_left (is_proper p) (is_proper f) both in
-      let proper_f = and_right (is_proper p) (is_proper f) both in
+      let both = and-snd (offers p).owns (is_proper p && is_proper f) w in
+      let proper_p = and-fst (is_proper p) (is_proper f) both in
+      let proper_f = and-snd (is_proper p) (is_proper f) both in
       refusal-asked_for n (fallback_serve (alloc_at p n a) (alloc_at f n a)) s cells (refuses_at p n a (child s 0) cells && refuses_at f n a (child s 1) cells) h
       (refusal-fallback_at p f n a s cells (λ t c. none_exactly_at p n a t c proper_p h) (λ t c. none_exactly_at f n a t c proper_f h))
   none_exactly_at (list es) n a s cells w h =
-      let proper = and_right (all_own es) (are_proper es) (and_right (is_between 1 4096 (member_count es)) (all_own es && are_proper es) w) in
+      let proper = and-snd (all_own es) (are_proper es) (and-snd (is_between 1 4096 (member_count es)) (all_own es && are_proper es) w) in
       let open_member : ℕ → Cells → Opening = λ i c. open_in es i (n + a) c in
       refusal-asked_for n (list_serve (nat_le (n + a) limit) (λ i. alloc_at_in es i n a) open_member) s cells
       (list_all (λ i. refuses_at_in es i n a (child s i) cells) (order_of s) && fresh_refuses (nat_le (n + a) limit) open_member (λ i t c. refuses_at_in es i n a t c) s cells) h
@@ -128,8 +129,8 @@ mutual
 
   pub none_exactly_at_in : (es : Shapes) (i n a : ℕ) (s : State) (cells : Cells) → are_proper es ≡ true → 1 ≤ n → is_refusal (alloc_at_in es i n a s cells) ≡ refuses_at_in es i n a s cells
   none_exactly_at_in no_members i n a s cells w h = refl
-  none_exactly_at_in (member e es) zero n a s cells w h = none_exactly_at e n a s cells (and_left (is_proper e) (are_proper es) w) h
-  none_exactly_at_in (member e es) (suc i) n a s cells w h = none_exactly_at_in es i n a s cells (and_right (is_proper e) (are_proper es) w) h
+  none_exactly_at_in (member e es) zero n a s cells w h = none_exactly_at e n a s cells (and-fst (is_proper e) (are_proper es) w) h
+  none_exactly_at_in (member e es) (suc i) n a s cells w h = none_exactly_at_in es i n a s cells (and-snd (is_proper e) (are_proper es) w) h
 
 none_at_for_none : (e : Shape) (a : ℕ) (s : State) (cells : Cells) → is_refusal (alloc_at e 0 a s cells) ≡ true
 unfolding alloc_at

@@ -1,5 +1,5 @@
 -- What is opened where the tree has no cell is open and sound, and took free cells alone.
-use Rattle.std.proofs.Common.{◌≡◌, refl, sym, ap, subst, ◌∙◌, ℕ, zero, suc, ◌≤◌, ◌<◌, ◌+◌, ◌-◌, ◌*◌, ◌/◌, ◌⊎◌, inl, inr, Bool, true, false, arith, List, [], get_or, nat_le, max, Option, Some, None, Result, Ok, Err}
+use Rattle.std.proofs.Common.{◌≡◌, refl, sym, ap, subst, ◌∙◌, ℕ, zero, suc, ◌≤◌, ◌<◌, ◌+◌, ◌-◌, ◌*◌, ◌/◌, ◌⊎◌, inl, inr, Bool, true, false, arith, List, [], get_or, nat_le, max, Option, Some, None, Result, Ok, Err, zero-add}
 use Rattle.std.proofs.lemmas.Bool.Decides.{nat_tests}
 use Rattle.std.proofs.lemmas.Nat.{div-mul-add}
 use Rattle.std.proofs.Math.Nat.{zero-mod}
@@ -14,7 +14,7 @@ use Rattle.layer_rules.specs.Serving.{alloc, open_tree, open_each, then_open, th
 use Rattle.layer_rules.specs.Leaves.{IsLeaf, IsLeafIn}
 use Rattle.layer_rules.specs.Soundness.{IsSettled, child_count}
 use Rattle.layer_laws.proofs.Wellness.{IsWell, AreWell, IsRegionSize}
-use Rattle.layer_laws.proofs.Members.{zero-add, settled-from}
+use Rattle.layer_laws.proofs.Members.{settled-from}
 use Rattle.layer_laws.proofs.Tags.{TagsKept, settled-tags, leaf-some}
 use Rattle.layer_laws.proofs.AllocGood.{alloc-good}
 

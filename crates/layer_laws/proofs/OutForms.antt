@@ -2,6 +2,8 @@
 use Rattle.std.proofs.Common.{◌≡◌, refl, ℕ, ◌≤◌, ◌+◌, ◌-◌, zero, suc, Bool, true, false, ◌&&◌, nat_eq, nat_le, arith, List, [], ◌∷◌, get_or, drop, map}
 use Rattle.std.specs.List.{list_all}
 use Rattle.std.proofs.lemmas.Bool.Decides.{nat_tests}
+use Rattle.std.proofs.lemmas.Bool.{and_from}
+use Rattle.std.proofs.lemmas.List.{get_or-drop}
 use Rattle.layer_rules.specs.declared.Block.{Block}
 use Rattle.layer_rules.specs.Blocks.{block, is_apart}
 use Rattle.layer_rules.specs.Rows.{Each}
@@ -16,8 +18,8 @@ use Rattle.layer_rules.specs.State.{State, is_open, child, cached_of}
 use Rattle.layer_rules.specs.Occupancy.{is_out}
 use Rattle.layer_rules.specs.OutForms.{IsOutCells, IsOutRegion, IsOutBelow, IsOutAffix, IsOutCache, Apart}
 use Rattle.layer_laws.proofs.MembersLemmas.{is_out_in-nth_member}
-use Rattle.layer_laws.proofs.Basics.{and-fst, and-snd, both}
-use Rattle.layer_laws.proofs.Runs.{starts_taken-at, starts_taken-from, get_or-drop}
+use Rattle.layer_laws.proofs.Basics.{and-fst, and-snd}
+use Rattle.layer_laws.proofs.Runs.{starts_taken-at, starts_taken-from}
 
 -- the test of a tag fails where there is no cell, if the tag is not 0
 with-tag : (tag c : ℕ) (T : List ℕ) → get_or (map (λ t. nat_eq t tag) T) c false ≡ true → get_or T c 0 ≡ tag
@@ -42,7 +44,7 @@ out-mem tag b s cells o =
           let k = c - cell_at b.place in
           let e : cell_at b.place + k ≡ c = omega arith in
           let z = starts_taken-at (cells_touched b.place b.len) (drop (cell_at b.place) (cells_with tag cells)) k h (omega arith) in
-          with-tag tag c cells.tags (rw (get_or-drop (cell_at b.place) k (cells_with tag cells) false, e) at z);
+          with-tag tag c cells.tags (rw (get_or-drop (cell_at b.place) (cells_with tag cells) k false, e) at z);
     }
 
 pub mem-out : (tag : ℕ) (b : Block) (s : State) (cells : Cells) → 1 ≤ tag → IsOutCells tag b s cells → is_out (mem tag) b s cells ≡ true
@@ -64,7 +66,7 @@ pub below-parts : (b : Block) (s : State) (x : Bool) → ((is_open s && nat_le 1
 below-parts b s x h = record { is_set = grind (arith, nat_tests); some = grind (arith, nat_tests); below = and-snd _ _ h }
 
 pub below-whole : (b : Block) (s : State) (x : Bool) → IsOutBelow b s x → ((is_open s && nat_le 1 b.len) && x) ≡ true
-below-whole b s x h = both _ _ (grind (arith, nat_tests, h.is_set, h.some)) h.below
+below-whole b s x h = and_from _ _ (grind (arith, nat_tests, h.is_set, h.some)) h.below
 
 pub out-quantize : (kind : RoundingKind) (e : Shape) (b : Block) (s : State) (cells : Cells) → is_out (quantize kind e) b s cells ≡ true → IsOutBelow b s (is_out e (quantize_down kind b) (child s 0) cells)
 unfolding is_out
@@ -93,7 +95,7 @@ pub affix-out : (prefix suffix : ℕ) (e : Shape) (b : Block) (s : State) (cells
 unfolding is_out
 affix-out prefix suffix e b s cells o =
     let f : nat_le prefix b.place ≡ true = grind (arith, nat_tests, o.fits) in
-    below-whole b s _ (record { is_set = o.is_set; some = o.some; below = both _ _ f o.below })
+    below-whole b s _ (record { is_set = o.is_set; some = o.some; below = and_from _ _ f o.below })
 
 abbrev pub seen_by : List ℕ → Block → ℕ
 seen_by thresholds b = member_for thresholds b.len
@@ -116,7 +118,7 @@ apart-each e s m b (p ∷ ps) h = (record { either = and-fst _ _ h }, apart-each
 
 apart-all : (e : Shape) (s : State) (m : ℕ) (b : Block) (ps : List ℕ) → ApartFrom e s m b ps → list_all (λ p. is_apart (extent e b s) (extent e (block p m) s)) ps ≡ true
 apart-all e s m b [] h = refl
-apart-all e s m b (p ∷ ps) h = both _ _ h.0.either (apart-all e s m b ps h.1)
+apart-all e s m b (p ∷ ps) h = and_from _ _ h.0.either (apart-all e s m b ps h.1)
 
 pub out-freelist : (least greatest : ℕ) (e : Shape) (b : Block) (s : State) (cells : Cells) → is_out (freelist least greatest e) b s cells ≡ true → IsOutCache least greatest e b s cells
 unfolding is_out
@@ -127,4 +129,4 @@ out-freelist least greatest e b s cells o =
 pub freelist-out : (least greatest : ℕ) (e : Shape) (b : Block) (s : State) (cells : Cells) → IsOutCache least greatest e b s cells → is_out (freelist least greatest e) b s cells ≡ true
 unfolding is_out
 freelist-out least greatest e b s cells o =
-    below-whole b s _ (record { is_set = o.is_set; some = o.some; below = both _ _ o.below (apart-all e (child s 0) greatest (cache_down least greatest b) (cached_of s) o.apart) })
+    below-whole b s _ (record { is_set = o.is_set; some = o.some; below = and_from _ _ o.below (apart-all e (child s 0) greatest (cache_down least greatest b) (cached_of s) o.apart) })

@@ -1,12 +1,13 @@
 -- A request and an opening take free cells for the tree's own leaves, and change no other cell.
-use Rattle.std.proofs.Common.{◌≡◌, refl, sym, ◌∙◌, ap, subst, ℕ, zero, suc, ◌+◌, ◌-◌, ◌*◌, ◌/◌, ◌≤◌, ◌<◌, ◌⊎◌, inl, inr, Bool, true, false, not, List, [], ◌∷◌, Option, Some, None, Result, Ok, Err, length, drop, map, max, get_or, nat_eq, nat_le, length-drop, arith}
-use Rattle.std.proofs.lemmas.List.{length-map}
+use Rattle.std.proofs.Common.{◌≡◌, refl, sym, ◌∙◌, ap, subst, ℕ, zero, suc, ◌+◌, ◌-◌, ◌*◌, ◌/◌, ◌≤◌, ◌<◌, ◌⊎◌, inl, inr, Bool, true, false, not, List, [], Option, Some, None, Result, Ok, Err, length, drop, max, get_or, nat_eq, nat_le, length-drop, arith}
+use Rattle.std.proofs.lemmas.List.{length-map, get_or-drop}
 use Rattle.std.proofs.lemmas.Bool.{cases_lt}
 use Rattle.std.specs.Bool.{⊤}
 use Rattle.layer_rules.specs.declared.Block.{Block}
 use Rattle.size_round.specs.Sizes.{limit, rounded, up, ceil_div}
 use Rattle.space_core.specs.Cells.{Cells, cell_size, taken_cells, tag_cells, least_cells, is_aligned_cell}
 use Rattle.space_core.specs.Runs.{put_run, starts_free, first_run}
+use Rattle.space_core.proofs.CellRuns.{starts_free-length, length-put_run}
 use Rattle.layer_rules.specs.Blocks.{block}
 use Rattle.layer_rules.specs.Leaves.{IsLeaf}
 use Rattle.layer_rules.specs.Offering.{in_range, good, member_for, bucket_for, bucket_size}
@@ -17,7 +18,7 @@ use Rattle.layer_rules.specs.Changing.{kr_put}
 use Rattle.layer_rules.specs.After.{After, after, Placed, placed, Serve, refuse, opened, Opening}
 use Rattle.layer_rules.specs.Serving.{asked_for, mem_serve, region_serve, bitmap_serve, bitmap_serve_at, kr_serve, kr_tail_fits, open_chunk, cache_serve, serve_parent, truncated, stats_serve, affix_shown, serve_member, bucket_serve, fallback_serve, list_serve, alloc, alloc_in, alloc_at, alloc_at_in, open_tree, open_in, open_each, open_parent, then_open, need_of, need_at, bucket_need, cache_need, region_chunk, bitmap_count, bitmap_chunk, kr_chunk, region_opened, bitmap_opened, kr_opened}
 use Rattle.layer_laws.specs.OwnCells.{IsOwnTag, OnlyOwnCells, tag_of}
-use Rattle.layer_laws.proofs.Runs.{starts_free-at, starts_free-length, get_or-drop, put_run-below, put_run-above, put_run-in, first_run-found}
+use Rattle.layer_laws.proofs.Runs.{starts_free-at, put_run-below, put_run-above, put_run-in, first_run-found, free-cell}
 use Rattle.layer_laws.proofs.Saving.{Saves, SavesAt, saves_at-asked_for, saves-asked_for, saves-region_serve, saves-bitmap_serve, saves-bitmap_serve_at, saves-serve_parent, saves-serve_member, saves-cache_serve, saves-stats_serve, saves-bucket_serve, saves-fallback_serve, saves-list_serve, Opens, OpensEach, OpensAt, opens-within, opens-then, opens-chunk, opens-parent, opens-group, opens-then_members}
 
 -- ---- one table after another
@@ -43,19 +44,6 @@ own-then e c d f h k = record { count = k.count ∙ h.count; each = λ j. own_ta
 
 -- ---- a leaf
 
-length-put_run : {A : Type 0} (x : A) (i n : ℕ) (ys : List A) → length (put_run x i n ys) ≡ length ys
-unfolding put_run
-length-put_run x zero zero ys = refl
-length-put_run x zero (suc n) [] = refl
-length-put_run x zero (suc n) (y ∷ ys) = ap suc (length-put_run x zero n ys)
-length-put_run x (suc i) n [] = refl
-length-put_run x (suc i) n (y ∷ ys) = ap suc (length-put_run x i n ys)
-
-free-tag : (tags : List ℕ) (k : ℕ) → get_or (map (λ t. not (nat_eq t 0)) tags) k true ≡ false → get_or tags k 0 ≡ 0
-free-tag [] k h = refl
-free-tag (t ∷ ts) zero h = grind arith
-free-tag (t ∷ ts) (suc k) h = free-tag ts k h
-
 -- a cell in a free run
 in_run : (tag i n : ℕ) (cells : Cells) (k : ℕ) → starts_free n (drop i (taken_cells cells)) ≡ true → i ≤ k → k < i + n → IsOwnTag (mem tag) (tag_of cells k) (tag_of (tag_cells tag i n cells) k)
 in_run tag i n cells k free l m =
@@ -65,8 +53,8 @@ in_run tag i n cells k free l m =
     let inside : k < length cells.tags = omega arith in
     let j : i + (k - i) ≡ k = omega arith in
     let at_run : get_or (drop i (taken_cells cells)) (k - i) true ≡ false = starts_free-at n (drop i (taken_cells cells)) (k - i) free (omega arith) in
-    let at_cell : get_or (taken_cells cells) k true ≡ false = ap (λ q. get_or (taken_cells cells) q true) (sym j) ∙ sym (get_or-drop i (k - i) (taken_cells cells) true) ∙ at_run in
-    inr (free-tag cells.tags k at_cell, put_run-in tag i n cells.tags k 0 l m inside)
+    let at_cell : get_or (taken_cells cells) k true ≡ false = ap (λ q. get_or (taken_cells cells) q true) (sym j) ∙ sym (get_or-drop i (taken_cells cells) (k - i) true) ∙ at_run in
+    inr (free-cell cells.tags k at_cell, put_run-in tag i n cells.tags k 0 l m inside)
 
 -- the cells of a free run get the tag
 own-tagged : (tag i n : ℕ) (cells : Cells) → starts_free n (drop i (taken_cells cells)) ≡ true → OnlyOwnCells (mem tag) cells (tag_cells tag i n cells)

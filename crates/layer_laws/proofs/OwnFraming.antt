@@ -1,5 +1,5 @@
 -- Where the bytes of the tree's own cells stay, its state and its bytes stay.
-use Rattle.std.proofs.Common.{◌≡◌, refl, ap, ◌∙◌, ℕ, zero, suc, ◌≤◌, ◌<◌, ◌+◌, ◌-◌, ◌/◌, true, arith, List, [], ◌∷◌, get_or, length}
+use Rattle.std.proofs.Common.{◌≡◌, refl, ap, ◌∙◌, ℕ, zero, suc, ◌≤◌, ◌<◌, ◌+◌, ◌-◌, ◌/◌, true, arith, List, [], ◌∷◌, get_or, length, zero-add}
 use Rattle.layer_rules.specs.declared.Block.{Block}
 use Rattle.layer_rules.specs.Blocks.{block, end_of}
 use Rattle.layer_rules.specs.Rows.{Each}
@@ -20,7 +20,7 @@ use Rattle.layer_laws.proofs.Wellness.{IsWell, AreWell, IsCacheSize}
 use Rattle.layer_laws.proofs.OutForms.{out-quantize, out-stats, out-affix, out-freelist, out-segregate, seen_by}
 use Rattle.layer_laws.proofs.Covering.{Covering, covers, leaf-in, settled-member, out-some_member}
 use Rattle.layer_laws.proofs.Bytes.{KeptBytes, WordsKept, IsChain-same, read_chain-same, IsWordAt-same, narrower}
-use Rattle.layer_laws.proofs.Members.{zero-add, image-member, images-from, read_each-same}
+use Rattle.layer_laws.proofs.Members.{image-member, images-from, read_each-same}
 
 -- the bytes of cells with tags of the tree's leaves stay
 pub record OwnKept (e : Shape) (cells : Cells) (old new : List ℕ) : Type 0 where

@@ -1,8 +1,8 @@
 -- The units that a block touches, and the least free place.
 use Rattle.std.proofs.Common.{◌≡◌, refl, sym, ◌∙◌, ap, subst, ℕ, zero, suc, ◌+◌, ◌-◌, ◌*◌, ◌/◌, ◌<◌, ◌≤◌, ⊎_elim, Bool, true, false, List, length, Option, Some, None, slice_get, arith}
-use Rattle.std.proofs.Math.Nat.{mul-le-mul_right, add-mul}
+use Rattle.std.proofs.Math.Nat.{mul-le-mul_right, add-mul, lt_of_mul-lt-mul_right}
 use Rattle.std.proofs.lemmas.Nat.{div-add-mod', mod_below, div-mul-add, le-div}
-use Rattle.std.proofs.lemmas.Bool.{cases_lt}
+use Rattle.std.proofs.lemmas.Bool.{cases_lt, false_from_ne_true}
 use Rattle.std.proofs.lemmas.Bool.Decides.{nat_tests}
 use Rattle.size_round.specs.Sizes.{ceil_div, up}
 use Rattle.space_core.specs.Runs.{first_place}
@@ -13,14 +13,14 @@ use Rattle.layer_rules.specs.State.{base_of, units_of}
 use Rattle.layer_rules.specs.Serving.{units_free}
 use Rattle.size_round.specs.SizeMeanings.{IsMultiple}
 use Rattle.layer_laws.specs.UnitMeanings.{UnitsFreeByBytes, HasTagByBytes, IsFirstPlace, FirstPlaceIsFirst, NoFirstPlace, FreePlaceIsLeast, NoFreePlace, BitmapPlaceIsLeast, NoBitmapPlace}
-use Rattle.size_round.proofs.UpLeast.{enough_times, less_factor, ceil_div-least, up_is_least}
-use Rattle.layer_laws.proofs.FirstRuns.{not_true, free_runs_are_free, tagged_cells_have_the_tag, run_within}
+use Rattle.size_round.proofs.UpLeast.{enough_times, ceil_div-least, up_is_least}
+use Rattle.layer_laws.proofs.FirstRuns.{free_runs_are_free, tagged_cells_have_the_tag, run_within}
 
 -- ---- units by bytes
 
 -- the unit of a byte ends before the units that reach behind it
 pub unit_below : (y e unit : ℕ) → 1 ≤ unit → y < e → y / unit < ceil_div e unit
-unit_below y e unit h l = less_factor (y / unit) (ceil_div e unit) unit (omega (arith, div-add-mod' y unit, enough_times e unit h))
+unit_below y e unit h l = lt_of_mul-lt-mul_right unit (omega (arith, div-add-mod' y unit, enough_times e unit h))
 
 pub units_in_order : (x y unit : ℕ) → 1 ≤ unit → x ≤ y → x / unit ≤ y / unit
 units_in_order x y unit h l = le-div (x / unit) y unit (omega arith) (omega (arith, div-add-mod' x unit))
@@ -155,7 +155,7 @@ free_place_is_least unit n a base us p m e =
       least = λ q i b c.
           let s = step_above a base q m i b in
           let e = s.at in
-          let fewer : s.steps < r.times = less_factor s.steps r.times a (omega arith) in
+          let fewer : s.steps < r.times = lt_of_mul-lt-mul_right a (omega arith) in
           subst (λ x. test x ≡ false) (sym s.at) (r.before s.steps fewer);
     }
 
@@ -163,7 +163,7 @@ pub no_free_place : NoFreePlace
 no_free_place unit n a base us h l m e q i b =
     let test = λ (x : ℕ). units_free unit base us (block x n) in
     let s = step_above a base q m i b in
-    subst (λ x. test x ≡ false) (sym s.at) (not_true (test (up base a + s.steps * a)) (λ t.
+    subst (λ x. test x ≡ false) (sym s.at) (false_from_ne_true (test (up base a + s.steps * a)) (λ t.
     let f = no_first_place test a (unit * length us / a) (up base a) e s.steps (steps_within unit n a base us s.steps h l m t) in
     cc))
 

@@ -1,16 +1,16 @@
 -- From what a tree is made by to the facts that the laws take.
-use Rattle.std.proofs.Common.{◌≡◌, refl, ℕ, ◌+◌, ◌≤◌, true, arith, List, length, inl, inr}
+use Rattle.std.proofs.Common.{◌≡◌, refl, ℕ, ◌≤◌, true, arith, inl, inr}
 use Rattle.std.proofs.lemmas.Bool.Decides.{nat_tests}
-use Rattle.layer_rules.specs.Proper.{is_proper, are_proper, is_proper_kind}
-use Rattle.size_round.specs.Sizes.{RoundingKind}
+use Rattle.layer_rules.specs.Proper.{is_proper, are_proper}
 use Rattle.layer_rules.specs.Offering.{alignment}
-use Rattle.layer_rules.specs.Shape.{Shape, null, mem, region, bitmap, kr, freelist, quantize, stats, affix, segregate, buckets, fallback, list, Shapes, no_members, member, member_count}
+use Rattle.layer_rules.specs.Shape.{Shape, null, mem, region, bitmap, kr, freelist, quantize, stats, affix, segregate, buckets, fallback, list, Shapes, no_members, member}
 use Rattle.layer_rules.specs.Leaves.{IsLeaf, IsLeafIn, HasDistinctTags, HaveDistinctTags}
 use Rattle.layer_rules.specs.Layering.{Tree, Stands}
 use Rattle.space_core.specs.Memory.{Memory}
 use Rattle.layer_laws.specs.Covered.{IsCovered, AreCovered, IsLayer}
-use Rattle.layer_laws.proofs.Basics.{and-fst, and-snd}
+use Rattle.layer_laws.proofs.Basics.{and-fst}
 use Rattle.layer_laws.proofs.Wellness.{IsRegionSize, IsCacheSize, IsWell, AreWell}
+use Rattle.layer_laws.proofs.ProperParts.{quantize_parts, stats_parent, affix_parent, segregate_parts, member_parts}
 
 pub proper-region : (size align : ℕ) (e : Shape) → is_proper (region size align e) ≡ true → IsRegionSize align × (is_proper e ≡ true)
 unfolding is_proper
@@ -24,26 +24,6 @@ pub proper-freelist : (least greatest : ℕ) (e : Shape) → is_proper (freelist
 unfolding is_proper
 proper-freelist least greatest e h = (record { word = grind (arith, nat_tests); most = grind (arith, nat_tests) }, grind (arith, nat_tests))
 
-pub proper-quantize : (kind : RoundingKind) (e : Shape) → is_proper (quantize kind e) ≡ true → (is_proper_kind kind ≡ true) × (is_proper e ≡ true)
-unfolding is_proper
-proper-quantize kind e h = (grind (arith, nat_tests), grind (arith, nat_tests))
-
-pub proper-affix : (prefix suffix : ℕ) (e : Shape) → is_proper (affix prefix suffix e) ≡ true → is_proper e ≡ true
-unfolding is_proper
-proper-affix prefix suffix e h = grind (arith, nat_tests)
-
-pub proper-segregate : (ts : List ℕ) (es : Shapes) → is_proper (segregate ts es) ≡ true → (member_count es ≡ length ts + 1) × (are_proper es ≡ true)
-unfolding is_proper
-proper-segregate ts es h = (grind (arith, nat_tests), grind (arith, nat_tests))
-
-pub proper-stats : (e : Shape) → is_proper (stats e) ≡ true → is_proper e ≡ true
-unfolding is_proper
-proper-stats e h = h
-
-proper-members : (e : Shape) (es : Shapes) → are_proper (member e es) ≡ true → (is_proper e ≡ true) × (are_proper es ≡ true)
-unfolding is_proper
-proper-members e es h = (and-fst _ _ h, and-snd _ _ h)
-
 mutual
   pub well-from : (e : Shape) → is_proper e ≡ true → HasDistinctTags e → ((t : ℕ) → IsLeaf e t → 1 ≤ t) → IsCovered e → IsWell e
   well-from null p d s c = tt
@@ -52,10 +32,10 @@ mutual
   well-from (bitmap unit count e) p d s c = c
   well-from (kr size e) p d s c = c
   well-from (freelist least greatest e) p d s c = let q = proper-freelist least greatest e p in (q.0, well-from e q.1 d s c)
-  well-from (quantize kind e) p d s c = let q = proper-quantize kind e p in (q.0, well-from e q.1 d s c)
-  well-from (stats e) p d s c = well-from e (proper-stats e p) d s c
-  well-from (affix prefix suffix e) p d s c = well-from e (proper-affix prefix suffix e p) d s c
-  well-from (segregate thresholds es) p d s c = let q = proper-segregate thresholds es p in (q.0, are-well-from es q.1 d s c)
+  well-from (quantize kind e) p d s c = let q = quantize_parts kind e p in (q.0, well-from e q.1 d s c)
+  well-from (stats e) p d s c = well-from e (stats_parent e p) d s c
+  well-from (affix prefix suffix e) p d s c = well-from e (affix_parent prefix suffix e p) d s c
+  well-from (segregate thresholds es) p d s c = let q = segregate_parts thresholds es p in (q.count, are-well-from es q.members d s c)
   well-from (buckets least greatest step es) p d s c = c
   well-from (fallback p f) q d s c = c
   well-from (list es) p d s c = c
@@ -63,7 +43,7 @@ mutual
   are-well-from : (es : Shapes) → are_proper es ≡ true → HaveDistinctTags es → ((t : ℕ) → IsLeafIn es t → 1 ≤ t) → AreCovered es → AreWell es
   are-well-from no_members p d s c = tt
   are-well-from (member e es) p d s c =
-      let q = proper-members e es p in
+      let q = member_parts e es p in
       (d.0, well-from e q.0 d.1 (λ t l. s t (inl l)) c.0, are-well-from es q.1 d.2 (λ t l. s t (inr l)) c.1)
 
 -- the shape of a layer that stands is as the laws need it

@@ -15,14 +15,8 @@ use Rattle.layer_rules.specs.After.{After, after, Placed, Serve, refuse, serve_b
 use Rattle.layer_rules.specs.Serving.{closed_left, serve_closed, bitmap_take, alloc_at, alloc_at_in, bitmap_serve_at, bitmap_place_at, served_unless, cache_serve, bucket_serve, open_in, alloc, alloc_in, asked_for, mem_serve, region_serve, bitmap_serve, kr_serve, cache_front, truncated, serve_parent, stats_serve, count_served, affix_shown, serve_member, or_else, fallback_serve, or_next, first_serving, keep_fresh, ask_fresh, serve_fresh, list_serve}
 use Rattle.layer_laws.specs.Laws.{KeptOnNone, KeepsOnNone}
 
-pub kept-refuse : (s : State) (cells : Cells) → KeptOnNone s cells (refuse s cells)
-kept-refuse s cells h = (refl, refl)
-
 pub keeps-refuse : KeepsOnNone refuse
 keeps-refuse s cells h = (refl, refl)
-
-pub kept-served : (s t : State) (c d : Cells) (p : Placed) → KeptOnNone s c (after (Some p) t d)
-kept-served s t c d p h = cc
 
 pub uncounted_each-set_child : (ss : States) (i : ℕ) (t : State) → uncounted t ≡ uncounted (nth_child ss i) → uncounted_each (set_child ss i t) ≡ uncounted_each ss
 unfolding uncounted

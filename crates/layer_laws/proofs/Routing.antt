@@ -1,9 +1,11 @@
 -- A block that is out is routed: each layer on its way can name it.
 use Rattle.std.proofs.Common.{◌≡◌, ◌∙◌, ℕ, zero, suc, ◌≤◌, ◌*◌, true, arith, List, [], length, nat_le}
 use Rattle.std.proofs.lemmas.Bool.Decides.{nat_tests}
+use Rattle.std.proofs.lemmas.Bool.{and_from}
 use Rattle.layer_rules.specs.declared.Block.{Block}
 use Rattle.layer_rules.specs.Blocks.{end_of, lies_in}
 use Rattle.size_round.specs.Sizes.{RoundingKind}
+use Rattle.size_round.proofs.UpLeast.{enough_times}
 use Rattle.space_core.specs.Cells.{Cells}
 use Rattle.space_core.specs.Memory.{most_cells}
 use Rattle.layer_rules.specs.Down.{cache_down, quantize_down, affix_down}
@@ -16,10 +18,10 @@ use Rattle.layer_rules.specs.Layering.{state_of}
 use Rattle.layer_laws.specs.Standing.{OutIsRouted}
 use Rattle.layer_laws.proofs.Wellness.{IsWell, AreWell}
 use Rattle.layer_laws.proofs.Properness.{layer-well}
-use Rattle.layer_laws.proofs.Basics.{opened, both, RegionParts, CacheParts}
+use Rattle.layer_laws.proofs.Basics.{opened, RegionParts, CacheParts}
 use Rattle.layer_laws.proofs.MembersLemmas.{is_routed_in-nth_member}
 use Rattle.layer_laws.proofs.OutForms.{out-mem, out-region, out-freelist, out-quantize, out-stats, out-affix, out-segregate, seen_by}
-use Rattle.layer_laws.proofs.Covering.{up-ge, settled-member, out-some_member}
+use Rattle.layer_laws.proofs.Covering.{settled-member, out-some_member}
 use Rattle.layer_laws.proofs.Tags.{out-in_range}
 use Rattle.layer_laws.proofs.WithoutBytes.{is_routed-bytes}
 
@@ -46,9 +48,9 @@ unfolding is_routed
 region-routed size align e w b s cells m h o =
     let x = out-region size align e b s cells o in
     let r = opened (region size align e) s cells (RegionParts size align e s cells) x.is_set h in
-    let g = up-ge b.len align w.0.some in
+    let g = enough_times b.len align w.0.some in
     let inside : lies_in b (chunk_of s) ≡ true = (let a = x.from in let c = x.upto in let d = r.1.stop in inside-chunk b (chunk_of s) a (omega arith)) in
-    both _ _ (seen-plausible (region size align e) w b s cells m h o x.some) inside
+    and_from _ _ (seen-plausible (region size align e) w b s cells m h o x.some) inside
   where
     inside-chunk : (b c : Block) → c.place ≤ b.place → end_of b ≤ end_of c → lies_in b c ≡ true
     inside-chunk b c p q = grind (arith, nat_tests)
@@ -58,21 +60,21 @@ unfolding is_routed
 freelist-routed least greatest e w law b s cells m h o =
     let x = out-freelist least greatest e b s cells o in
     let r = opened (freelist least greatest e) s cells (CacheParts greatest e s cells) x.is_set h in
-    both _ _ (seen-plausible (freelist least greatest e) w b s cells m h o x.some) (law (cache_down least greatest b) (child s 0) cells m r.2 x.below)
+    and_from _ _ (seen-plausible (freelist least greatest e) w b s cells m h o x.some) (law (cache_down least greatest b) (child s 0) cells m r.2 x.below)
 
 quantize-routed : (kind : RoundingKind) (e : Shape) → IsWell (quantize kind e) → Routing e → Routing (quantize kind e)
 unfolding is_routed
 quantize-routed kind e w law b s cells m h o =
     let x = out-quantize kind e b s cells o in
     let r = opened (quantize kind e) s cells _ x.is_set h in
-    both _ _ (seen-plausible (quantize kind e) w b s cells m h o x.some) (law (quantize_down kind b) (child s 0) cells m r.1 x.below)
+    and_from _ _ (seen-plausible (quantize kind e) w b s cells m h o x.some) (law (quantize_down kind b) (child s 0) cells m r.1 x.below)
 
 stats-routed : (e : Shape) → IsWell (stats e) → Routing e → Routing (stats e)
 unfolding is_routed
 stats-routed e w law b s cells m h o =
     let x = out-stats e b s cells o in
     let r = opened (stats e) s cells _ x.is_set h in
-    both _ _ (seen-plausible (stats e) w b s cells m h o x.some) (law b (child s 0) cells m r.1 x.below)
+    and_from _ _ (seen-plausible (stats e) w b s cells m h o x.some) (law b (child s 0) cells m r.1 x.below)
 
 affix-routed : (prefix suffix : ℕ) (e : Shape) → IsWell (affix prefix suffix e) → Routing e → Routing (affix prefix suffix e)
 unfolding is_routed
@@ -80,7 +82,7 @@ affix-routed prefix suffix e w law b s cells m h o =
     let x = out-affix prefix suffix e b s cells o in
     let r = opened (affix prefix suffix e) s cells _ x.is_set h in
     let fits : nat_le prefix b.place ≡ true = (let k = x.fits in grind (arith, nat_tests)) in
-    both _ _ (seen-plausible (affix prefix suffix e) w b s cells m h o x.some) (both _ _ fits (law (affix_down prefix suffix b) (child s 0) cells m r.1 x.below))
+    and_from _ _ (seen-plausible (affix prefix suffix e) w b s cells m h o x.some) (and_from _ _ fits (law (affix_down prefix suffix b) (child s 0) cells m r.1 x.below))
 
 segregate-routed : (ts : List ℕ) (es : Shapes) → IsWell (segregate ts es) → ((i : ℕ) → Routing (nth_member es i)) → Routing (segregate ts es)
 unfolding is_routed
@@ -88,7 +90,7 @@ segregate-routed ts es w law b s cells m h o =
     let i = seen_by ts b in
     let x = out-segregate ts es b s cells o in
     let r = opened (segregate ts es) s cells (IsGroup (member_count es) s × AreSettled es 0 s cells) x.is_set h in
-    both _ _ (seen-plausible (segregate ts es) w b s cells m h o x.some)
+    and_from _ _ (seen-plausible (segregate ts es) w b s cells m h o x.some)
     (is_routed_in-nth_member es i b (child s i) ∙ law i b (child s i) cells m (settled-member es i s cells r.1 (out-some_member es i b (child s i) cells x.below)) x.below)
 
 mutual

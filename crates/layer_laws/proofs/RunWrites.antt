@@ -1,16 +1,9 @@
 -- A run that is put, and the count of free units.
-use Rattle.std.proofs.Common.{◌≡◌, refl, ap, ℕ, zero, suc, ◌+◌, ◌<◌, ◌≤◌, Bool, true, false, not, cond, List, [], ◌∷◌, length, Some, slice_get, arith}
+use Rattle.std.proofs.Common.{◌≡◌, refl, ℕ, zero, suc, ◌+◌, ◌<◌, ◌≤◌, Bool, true, false, not, cond, List, [], ◌∷◌, length, Some, slice_get, arith}
 use Rattle.std.proofs.lemmas.List.Recursion.{is_count_by}
 use Rattle.space_core.specs.Runs.{put_run, free_count}
+use Rattle.space_core.proofs.CellRuns.{length-put_run}
 use Rattle.layer_laws.specs.UnitMeanings.{IsPut, UnitsArePut, NumbersArePut, FreeCountCounts}
-
-put_size : {A : Type 0} (x : A) (i n : ℕ) (ys : List A) → length (put_run x i n ys) ≡ length ys
-unfolding put_run
-put_size x zero zero ys = refl
-put_size x zero (suc n) [] = refl
-put_size x zero (suc n) (y ∷ ys) = ap suc (put_size x zero n ys)
-put_size x (suc i) n [] = refl
-put_size x (suc i) n (y ∷ ys) = ap suc (put_size x i n ys)
 
 put_inside : {A : Type 0} (x : A) (i n : ℕ) (ys : List A) (k : ℕ) → k < length ys → i ≤ k → k < i + n → slice_get (put_run x i n ys) k ≡ Some x
 unfolding put_run
@@ -40,7 +33,7 @@ put_behind x (suc i) n (y ∷ ys) zero h = refl
 put_behind x (suc i) n (y ∷ ys) (suc k) h = put_behind x i n ys k (omega arith)
 
 is_put : {A : Type 0} (x : A) (i n : ℕ) (ys : List A) → IsPut x i n ys (put_run x i n ys)
-is_put x i n ys = record { size = put_size x i n ys; inside = put_inside x i n ys; below = put_below x i n ys; behind = put_behind x i n ys }
+is_put x i n ys = record { size = length-put_run x i n ys; inside = put_inside x i n ys; below = put_below x i n ys; behind = put_behind x i n ys }
 
 pub units_are_put : UnitsArePut
 units_are_put x i n us = is_put x i n us

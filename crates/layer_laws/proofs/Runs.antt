@@ -1,5 +1,5 @@
 -- Runs of units, index by index.
-use Rattle.std.proofs.Common.{◌≡◌, refl, ℕ, zero, suc, ◌≤◌, ◌<◌, ◌+◌, ◌-◌, Bool, true, false, ◌&&◌, arith, List, [], ◌∷◌, get_or, length, drop, map, Some}
+use Rattle.std.proofs.Common.{◌≡◌, refl, ℕ, zero, suc, ◌≤◌, ◌<◌, ◌+◌, ◌-◌, Bool, true, false, ◌&&◌, arith, List, [], ◌∷◌, get_or, length, drop, Some, map, not, nat_eq}
 use Rattle.space_core.specs.Runs.{starts_free, starts_taken, first_run, put_run}
 
 pub starts_taken-at : (n : ℕ) (us : List Bool) (k : ℕ) → starts_taken n us ≡ true → k < n → get_or us k false ≡ true
@@ -25,22 +25,11 @@ starts_free-at (suc n) (true ∷ us) k h l = absurd (cc)
 starts_free-at (suc n) (false ∷ us) zero h l = refl
 starts_free-at (suc n) (false ∷ us) (suc k) h l = starts_free-at n us k h (omega arith)
 
-pub starts_free-length : (n : ℕ) (us : List Bool) → starts_free n us ≡ true → n ≤ length us
-unfolding starts_free
-starts_free-length zero us h = omega arith
-starts_free-length (suc n) [] h = absurd (cc)
-starts_free-length (suc n) (true ∷ us) h = absurd (cc)
-starts_free-length (suc n) (false ∷ us) h = let l = starts_free-length n us h in omega arith
-
-pub get_or-drop : {A : Type 0} (i k : ℕ) (us : List A) (d : A) → get_or (drop i us) k d ≡ get_or us (i + k) d
-get_or-drop zero k us d = let e : zero + k ≡ k = omega arith in rw e refl
-get_or-drop (suc i) k [] d = refl
-get_or-drop (suc i) k (u ∷ us) d = let e : suc i + k ≡ suc (i + k) = omega arith in rw e (get_or-drop i k us d)
-
-pub get_or-map : {A B : Type 0} (f : A → B) (xs : List A) (i : ℕ) (d : A) → get_or (map f xs) i (f d) ≡ f (get_or xs i d)
-get_or-map f [] i d = refl
-get_or-map f (x ∷ xs) zero d = refl
-get_or-map f (x ∷ xs) (suc i) d = get_or-map f xs i d
+-- a cell whose unit is free has no tag
+pub free-cell : (T : List ℕ) (c : ℕ) → get_or (map (λ t. not (nat_eq t 0)) T) c true ≡ false → get_or T c 0 ≡ 0
+free-cell [] c h = refl
+free-cell (t ∷ T) zero h = grind arith
+free-cell (t ∷ T) (suc c) h = free-cell T c h
 
 -- ---- a run that is put
 

@@ -1,5 +1,5 @@
 -- A change of the table outside the cells of a tree's leaves, and tags that are not 0.
-use Rattle.std.proofs.Common.{◌≡◌, ◌≢◌, ◌+◌, refl, sym, subst, ◌∙◌, ℕ, false, cond, nat_eq, count_by, zero, suc, ◌≤◌, ◌<◌, ◌-◌, ◌*◌, ◌/◌, inl, inr, Bool, true, arith, List, [], ◌∷◌, get_or, length}
+use Rattle.std.proofs.Common.{◌≡◌, ◌≢◌, ◌+◌, refl, sym, subst, ◌∙◌, ℕ, false, cond, nat_eq, count_by, zero, suc, ◌≤◌, ◌<◌, ◌-◌, ◌*◌, ◌/◌, inl, inr, Bool, true, arith, List, [], ◌∷◌, get_or, length, zero-add}
 use Rattle.layer_rules.specs.declared.Block.{Block}
 use Rattle.layer_rules.specs.Blocks.{block, end_of}
 use Rattle.layer_rules.specs.Rows.{Each}
@@ -20,7 +20,7 @@ use Rattle.layer_laws.proofs.Wellness.{IsWell, AreWell}
 use Rattle.layer_laws.proofs.Basics.{RegionParts, CacheParts}
 use Rattle.layer_laws.proofs.OutForms.{out-mem, mem-out, out-quantize, quantize-out, out-stats, stats-out, out-affix, affix-out, out-segregate, segregate-out, out-freelist, freelist-out, seen_by}
 use Rattle.layer_laws.proofs.Covering.{covers, leaf-in, settled-member}
-use Rattle.layer_laws.proofs.Members.{zero-add, settled-from}
+use Rattle.layer_laws.proofs.Members.{settled-from}
 
 -- ---- tags of leaves are not 0
 

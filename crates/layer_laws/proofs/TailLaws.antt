@@ -16,8 +16,9 @@ use Rattle.layer_rules.specs.Changing.{serves_tail, kr_put}
 use Rattle.layer_rules.specs.Serving.{asked_for, region_serve, bitmap_serve, kr_serve, kr_tail_fits, cache_serve, serve_parent, truncated, stats_serve, affix_shown, serve_member, bucket_serve, fallback_serve, list_serve, alloc, alloc_in, open_tree, open_in, open_each, open_parent, then_open, need_of, need_at, bucket_need, cache_need, region_chunk, bitmap_count, bitmap_chunk, kr_chunk, region_opened, bitmap_opened, kr_opened}
 use Rattle.layer_rules.specs.Soundness.{HasFreeTail, IsSettled, AreSettled}
 use Rattle.layer_laws.specs.FreeTails.{TailIsFree, HasFreeTails, MemberHasFreeTails}
-use Rattle.layer_laws.proofs.Rounding.{and_left, and_right, le_from_test}
+use Rattle.layer_laws.proofs.Rounding.{le_from_test}
 use Rattle.layer_laws.proofs.Saving.{OfChildren, OfEach, Saves, SavesAt, saves_at-asked_for, saves-asked_for, saves-region_serve, saves-bitmap_serve, saves-serve_parent, saves-serve_member, saves-cache_serve, saves-stats_serve, saves-bucket_serve, saves-fallback_serve, saves-list_serve, Opens, OpensEach, OpensAt, opens-within, opens-then, opens-chunk, opens-parent, opens-group, opens-then_members}
+use Rattle.layer_laws.proofs.Basics.{and-fst, and-snd}
 
 -- one child, or two
 abbrev pub one_member : Shape → Shapes
@@ -151,8 +152,8 @@ kr-served : (e : Shape) (c : ℕ) (s : State) → kr_tail_fits (c * 16) s ≡ tr
     → KrTail e (with_own s (kr_own (chunk_of s) region_mode (position_of s + c * 16) (kr_put true (position_of s) (c * 16) s)))
 kr-served e c closed q h = h
 kr-served e c (open_with own ss) q h =
-    let served = and_left (serves_tail (mode_in own)) (nat_le (position_in own + c * 16) (end_of (chunk_in own))) q in
-    let room = le_from_test (position_in own + c * 16) (end_of (chunk_in own)) (and_right (serves_tail (mode_in own)) (nat_le (position_in own + c * 16) (end_of (chunk_in own))) q) in
+    let served = and-fst (serves_tail (mode_in own)) (nat_le (position_in own + c * 16) (end_of (chunk_in own))) q in
+    let room = le_from_test (position_in own + c * 16) (end_of (chunk_in own)) (and-snd (serves_tail (mode_in own)) (nat_le (position_in own + c * 16) (end_of (chunk_in own))) q) in
     (tail-taken (chunk_in own) (position_in own) c (units_in own) room (free_tail (mode_in own) (HasFreeTail (chunk_in own) (position_in own) (units_in own)) served h.0), h.1)
 
 -- in list mode
@@ -189,9 +190,6 @@ TailsKept e serve = (s : State) (cells : Cells) → HasFreeTails e s → HasFree
 
 abbrev pub MemberTailsKept : Shapes → ℕ → Serve → Type 0
 MemberTailsKept es i serve = (s : State) (cells : Cells) → MemberHasFreeTails es i s → MemberHasFreeTails es i (serve s cells).state
-
-abbrev TailsOpened : Shape → State → Cells → Type 0
-TailsOpened e s cells = HasFreeTails e s
 
 pub saves_at-any : (Q : State → Type 0) (serve : Serve) → ((s : State) (cells : Cells) → Q s → Q (serve s cells).state) → SavesAt Q AnyCells serve
 saves_at-any Q serve h t cells k l = (h t cells k, tt)

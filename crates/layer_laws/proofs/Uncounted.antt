@@ -7,7 +7,7 @@ use Rattle.layer_rules.specs.Down.{cache_down, quantize_down, affix_down, bucket
 use Rattle.layer_rules.specs.Offering.{member_for, bucket_for, in_range, is_served_size}
 use Rattle.layer_rules.specs.Ownership.{holds, holds_in, may_hold}
 use Rattle.layer_rules.specs.Shape.{Shape, null, mem, region, bitmap, kr, freelist, quantize, stats, affix, segregate, buckets, fallback, list, Shapes, no_members, member}
-use Rattle.layer_rules.specs.State.{State, closed, open_with, Own, stats_own, States, no_children, child_and, nth_child, child, is_open, own_of, chunk_in, position_in, base_in, mode_in, units_in, cached_in, order_in, chunk_of, position_of, base_of, mode_of, units_of, cached_of, order_of, uncounted, uncounted_each, without_counts}
+use Rattle.layer_rules.specs.State.{State, closed, open_with, Own, stats_own, States, no_children, child_and, nth_child, child, is_open, own_of, chunk_in, position_in, base_in, units_in, cached_in, order_in, chunk_of, position_of, base_of, units_of, cached_of, order_of, uncounted, uncounted_each, without_counts}
 
 pub is_open-uncounted : (s : State) → is_open (uncounted s) ≡ is_open s
 unfolding uncounted
@@ -43,10 +43,6 @@ base_in-without_counts : (own : Own) → base_in (without_counts own) ≡ base_i
 base_in-without_counts (stats_own counts) = refl
 base_in-without_counts _ = refl
 
-mode_in-without_counts : (own : Own) → mode_in (without_counts own) ≡ mode_in own
-mode_in-without_counts (stats_own counts) = refl
-mode_in-without_counts _ = refl
-
 units_in-without_counts : (own : Own) → units_in (without_counts own) ≡ units_in own
 units_in-without_counts (stats_own counts) = refl
 units_in-without_counts _ = refl
@@ -68,9 +64,6 @@ position_of-uncounted s = own-uncounted position_in position_in-without_counts s
 pub base_of-uncounted : (s : State) → base_of (uncounted s) ≡ base_of s
 base_of-uncounted s = own-uncounted base_in base_in-without_counts s
 
-pub mode_of-uncounted : (s : State) → mode_of (uncounted s) ≡ mode_of s
-mode_of-uncounted s = own-uncounted mode_in mode_in-without_counts s
-
 pub units_of-uncounted : (s : State) → units_of (uncounted s) ≡ units_of s
 units_of-uncounted s = own-uncounted units_in units_in-without_counts s
 
@@ -87,7 +80,7 @@ may_hold-uncounted b s = ap (λ x. x && is_served_size b.len) (is_open-uncounted
 pub of_child : {A : Type 0} (f : State → A) (s : State) (i : ℕ) → ((t : State) → f (uncounted t) ≡ f t) → f (child (uncounted s) i) ≡ f (child s i)
 of_child f s i h = ap f (child-uncounted s i) ∙ h (child s i)
 
-list_any-cong : (f g : ℕ → Bool) (is : List ℕ) → ((i : ℕ) → f i ≡ g i) → list_any f is ≡ list_any g is
+pub list_any-cong : (f g : ℕ → Bool) (is : List ℕ) → ((i : ℕ) → f i ≡ g i) → list_any f is ≡ list_any g is
 list_any-cong f g [] h = refl
 list_any-cong f g (i ∷ is) h = ap₂ (λ x y. x || y) (h i) (list_any-cong f g is h)
 

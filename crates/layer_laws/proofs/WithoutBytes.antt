@@ -1,7 +1,7 @@
 -- What is read of a state without the bytes of the Space: whether a block is held, its route, whether it is routed, and its extent.
 use Rattle.std.specs.Prelude.{find}
 use Rattle.std.proofs.Common.{◌∙◌, ◌≡◌, refl, ap, ap₂, ℕ, zero, suc, Bool, ◌&&◌, ◌||◌, List, [], ◌∷◌, Option, Some, None, cond, nat_le, unwrap_or, is_some}
-use Rattle.std.specs.List.{list_any}
+use Rattle.layer_laws.proofs.Uncounted.{list_any-cong}
 use Rattle.layer_rules.specs.declared.Block.{Block}
 use Rattle.layer_rules.specs.Blocks.{no_block}
 use Rattle.layer_rules.specs.Down.{cache_down, quantize_down, affix_down, bucket_down}
@@ -11,10 +11,6 @@ use Rattle.layer_rules.specs.Fields.{Fields, closed_fields, open_fields, nth_fie
 use Rattle.layer_rules.specs.Reading.{read_state, read_each}
 use Rattle.layer_rules.specs.Shape.{Shape, null, mem, region, bitmap, kr, freelist, quantize, stats, affix, segregate, buckets, fallback, list, Shapes, no_members, member}
 use Rattle.layer_rules.specs.State.{nth_child}
-
-any-cong : (f g : ℕ → Bool) (is : List ℕ) → ((i : ℕ) → f i ≡ g i) → list_any f is ≡ list_any g is
-any-cong f g [] h = refl
-any-cong f g (i ∷ is) h = ap₂ (λ x y. x || y) (h i) (any-cong f g is h)
 
 mutual
   unfolding holds read_state
@@ -49,7 +45,7 @@ mutual
   holds-bytes (list es) b closed_fields x y = refl
   holds-bytes (list es) b (open_fields kept fss) x y =
       ap (λ z. is_served_size b.len && z)
-      (any-cong (λ i. holds_in es i b (nth_child (read_each es 0 (open_fields kept fss) x) i)) (λ i. holds_in es i b (nth_child (read_each es 0 (open_fields kept fss) y) i)) (kept_members kept)
+      (list_any-cong (λ i. holds_in es i b (nth_child (read_each es 0 (open_fields kept fss) x) i)) (λ i. holds_in es i b (nth_child (read_each es 0 (open_fields kept fss) y) i)) (kept_members kept)
       (λ i. holds_in-bytes es i 0 b (open_fields kept fss) x y))
 
   pub holds_in-bytes : (es : Shapes) (i j : ℕ) (b : Block) (fs : Fields) (x y : List ℕ) → holds_in es i b (nth_child (read_each es j fs x) i) ≡ holds_in es i b (nth_child (read_each es j fs y) i)

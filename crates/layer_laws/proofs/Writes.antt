@@ -2,7 +2,7 @@
 use Rattle.std.proofs.Common.{◌≡◌, ◌≤◌, ◌<◌, ◌/◌, ◌-◌, inl, inr, length, get_or, true, ap, sym, subst, arith}
 use Rattle.std.proofs.lemmas.Bool.Decides.{nat_tests}
 use Rattle.layer_rules.specs.declared.Block.{Block}
-use Rattle.layer_rules.specs.Blocks.{end_of, lies_in, is_apart}
+use Rattle.layer_rules.specs.Blocks.{end_of, is_apart}
 use Rattle.space_core.specs.Cells.{Cells}
 use Rattle.space_core.specs.Memory.{Memory, IsMemory}
 use Rattle.layer_rules.specs.Leaves.{HasMadeTags}
@@ -18,14 +18,12 @@ use Rattle.layer_laws.proofs.Framing.{SameOrApart, framed}
 use Rattle.layer_laws.proofs.Marks.{marked}
 use Rattle.layer_laws.proofs.Tags.{leaf-some, tag-in_range}
 use Rattle.layer_laws.proofs.Good.{three}
+use Rattle.layer_laws.proofs.BlockLaws.{inside-of}
 
 -- ---- where a block lies
 
 pub covers-of : (t : Tree) (m : Memory) (b : Block) → IsLayer t → Stands t m → IsOutOf t m b → Covers t.shape b (state_of t m) m.cells
 covers-of t m b l h o = covers t.shape (layer-well t m l h) b (state_of t m) m.cells h.sound.settled o
-
-inside-of : (b x : Block) → x.place ≤ b.place → end_of b ≤ end_of x → lies_in b x ≡ true
-inside-of b x h k = grind (arith, nat_tests)
 
 -- an extent whose bytes are in cells of the table ends in the Space
 room-of : (x : Block) (m : Memory) → IsMemory m → x.place < end_of x → 1 ≤ get_or m.cells.tags ((end_of x - 1) / 64) 0 → end_of x ≤ length m.bytes

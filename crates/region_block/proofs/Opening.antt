@@ -1,5 +1,5 @@
 -- Opening a region: what the rule gives, by what its parent does.
-use Rattle.std.proofs.Common.{◌≡◌, refl, sym, ◌∙◌, ap, ℕ, ◌+◌, ◌≤◌, ◌<◌, Bool, true, false, Option, Some, None, Ok, Err, arith}
+use Rattle.std.proofs.Common.{◌≡◌, refl, sym, ◌∙◌, ap, ℕ, ◌≤◌, Bool, true, false, Option, Some, None, Ok, Err, arith}
 use Rattle.std.proofs.lemmas.Bool.Decides.{nat_tests}
 use Rattle.size_round.specs.Sizes.{limit}
 use Rattle.space_core.specs.Cells.{Cells}
@@ -36,27 +36,8 @@ within : (size : ℕ) (o : Opening) (b : Bool) → b ≡ true → elim b as (λ 
 within size o true e = refl
 within size o false e = absurd (cc)
 
-without : (size : ℕ) (o : Opening) (b : Bool) → b ≡ false → elim b as (λ _. Opening) [ true ↦ o | false ↦ Err 0 ] ≡ Err 0
-without size o true e = absurd (cc)
-without size o false e = refl
-
 pub within_limit-fits : (size : ℕ) (o : Opening) → size ≤ limit → within_limit size o ≡ o
 within_limit-fits size o h = within size o _ (grind (arith, nat_tests))
-
-pub within_limit-over : (size : ℕ) (o : Opening) → limit < size → within_limit size o ≡ Err 0
-within_limit-over size o h = without size o _ (grind (arith, nat_tests))
-
--- a chunk above the limit is refused at the region
-pub region-over : (size align need : ℕ) (e : Shape) (cells : Cells) → limit < region_chunk size align need → open_tree (region size align e) need cells ≡ Err 0
-unfolding open_tree
-region-over size align need e cells h = within_limit-over _ _ h
-
--- a refusal of the parent is passed on, one node further
-pub region-parent_refused : (size align need k : ℕ) (e : Shape) (cells : Cells) → region_chunk size align need ≤ limit → open_tree e (need_of need (region_chunk size align need)) cells ≡ Err k
-    → open_tree (region size align e) need cells ≡ Err (1 + k)
-unfolding open_tree
-region-parent_refused size align need k e cells h q =
-    within_limit-fits _ _ h ∙ ap (λ p. then_open 1 p (λ o. chunk_given region_opened (alloc e (region_chunk size align need) o.state o.cells))) q
 
 given-none : (r : After (Option Placed)) → block_in r.answer ≡ None → chunk_given region_opened r ≡ Err 0
 given-none r h = by r r.answer refl h where

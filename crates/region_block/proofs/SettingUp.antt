@@ -1,10 +1,9 @@
 -- What setting up a region leaves, by how it ended.
-use Rattle.std.proofs.Common.{◌≡◌, refl, sym, ◌∙◌, ap, subst, ℕ, ◌+◌, ◌≤◌, ◌<◌, false, Option, Some, None, Ok, Err}
+use Rattle.std.proofs.Common.{◌≡◌, refl, sym, ◌∙◌, ap, subst, ℕ, ◌≤◌, false, Option, Some, None, Ok, Err}
 use Rattle.size_round.specs.Sizes.{limit}
 use Rattle.space_core.specs.Cells.{Cells}
 use Rattle.space_core.specs.Memory.{Memory}
 use Rattle.layer_rules.specs.declared.Block.{Block}
-use Rattle.layer_rules.specs.declared.Refused.{Refused}
 use Rattle.layer_rules.specs.Fields.{are_open}
 use Rattle.layer_rules.specs.Reading.{read_state}
 use Rattle.layer_rules.specs.Releasing.{without_leaves}
@@ -12,7 +11,7 @@ use Rattle.layer_rules.specs.Shape.{Shape, region}
 use Rattle.layer_rules.specs.State.{State, open_with, region_own, one_child}
 use Rattle.layer_rules.specs.After.{After, Placed, Opened, Opening}
 use Rattle.layer_rules.specs.Serving.{alloc, open_tree, region_chunk, need_of}
-use Rattle.layer_rules.specs.Layering.{Tree, state_of, IsShut, served, block_in, Stands, ForeignKept, Frames, OpensAs, SetsUp, TearsDown, Allocates}
+use Rattle.layer_rules.specs.Layering.{Tree, state_of, IsShut, served, block_in, Stands, OpensAs, SetsUp, TearsDown, Allocates}
 use Rattle.region_block.specs.declared.bump.Bump.{Bump}
 use Rattle.region_block.specs.RegionTree.{region_tree}
 use Rattle.layer_laws.specs.Covered.{IsLayer}
@@ -22,49 +21,17 @@ use Rattle.layer_laws.proofs.Beside.{changes-in_turn}
 use Rattle.layer_laws.proofs.Lives.{set_up-stands, set_up-changes_own, torn-changes_own}
 use Rattle.layer_laws.proofs.Shut.{shut-has_no_cells}
 use Rattle.layer_laws.proofs.TornDownLaws.{asked_torn_down}
-use Rattle.region_block.proofs.Opening.{granted-by, refused-by, region-over, region-parent_refused, region-chunk_refused, region-granted}
+use Rattle.region_block.proofs.Opening.{granted-by, region-chunk_refused, region-granted}
 
 -- the empty region over a closed parent, as contracts see it
 abbrev shut : (size align : ℕ) → Tree → Tree
 shut size align t = region_tree size align None t
-
-foreign-same : (e : Shape) (m : Memory) → ForeignKept e m m
-foreign-same e m = record { at = λ i a b. refl }
 
 opens-err : (p : Opening) (t' : Tree) (m m' : Memory) (k : ℕ) → p ≡ Err k → m'.cells ≡ m.cells → OpensAs p t' m m' (Err (record { node = k }))
 opens-err p t' m m' k e c = subst (λ (q : Opening). OpensAs q t' m m' (Err (record { node = k }))) (sym e) (refl, c)
 
 opens-ok : (p : Opening) (t' : Tree) (m m' : Memory) (d : Unit {0}) (o : Opened) → p ≡ Ok o → state_of t' m' ≡ o.state → m'.cells ≡ o.cells → OpensAs p t' m m' (Ok d)
 opens-ok p t' m m' d o e s c = subst (λ (q : Opening). OpensAs q t' m m' (Ok d)) (sym e) (s, c)
-
--- refused before the parent was asked
-pub over : (size align need : ℕ) (t : Tree) (m : Memory) → Stands (shut size align t) m → limit < region_chunk size align need
-    → SetsUp (shut size align t) (shut size align t) m m need (Err (record { node = 0 }))
-unfolding read_state
-over size align need t m h x =
-    record {
-      frame = record { shape = refl; image = h.image; memory = h.memory; size = refl; leaves = refl; foreign = foreign-same _ m };
-      opened = refl;
-      answer = opens-err _ _ m m 0 (region-over size align need t.shape m.cells x) refl;
-    }
-
--- the frame of a region over a parent that changed once
-closed-frame : (size align : ℕ) (t t' : Tree) (m m' : Memory) → Frames t t' m m' → Frames (shut size align t) (shut size align t') m m'
-unfolding read_state
-closed-frame size align t t' m m' f =
-    record { shape = ap (region size align) f.shape; image = tt; memory = f.memory; size = f.size; leaves = f.leaves; foreign = record { at = f.foreign.at } }
-
--- refused by the parent
-pub parent-refused : (size align need : ℕ) (t t' : Tree) (m m' : Memory) (r : Refused) → region_chunk size align need ≤ limit
-    → SetsUp t t' m m' (need_of need (region_chunk size align need)) (Err r)
-    → SetsUp (shut size align t) (shut size align t') m m' need (Err (record { node = 1 + r.node }))
-parent-refused size align need t t' m m' r x u =
-    let q = refused-by _ t' m m' r u.answer in
-    record {
-      frame = closed-frame size align t t' m m' u.frame;
-      opened = refl;
-      answer = opens-err _ _ m m' (1 + r.node) (region-parent_refused size align need r.node t.shape m.cells x q.refused) q.cells;
-    }
 
 -- what the parent's two calls gave, said of the rule alone
 pub record IsServedChunk (c need : ℕ) (t t' t'' : Tree) (m m' m'' : Memory) (r : Option Block) : Type 0 where

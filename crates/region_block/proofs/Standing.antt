@@ -70,9 +70,6 @@ pub below : (size align : ℕ) (b : Bump) (t : Tree) (m : Memory) (c : Block) �
 unfolding read_state
 below size align b t m c o = let x = out-region size align t.shape c _ m.cells o in record { some = x.some; upto = x.upto }
 
-pub le-up : (n a : ℕ) → 1 ≤ a → n ≤ up n a
-le-up n a h = grind arith
-
 pub up-less : (n a : ℕ) → 1 ≤ a → up n a + 1 ≤ n + a
 up-less n a h = grind arith
 

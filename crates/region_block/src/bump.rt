@@ -32,7 +32,6 @@ pub struct Region<P: Layer> {
 
 impl<P: Layer> Region<P> {
     ghost use Rattle.region_block.specs.RegionTree.{region_of};
-    ghost use Rattle.layer_rules.specs.Fields.{closed_fields};
     ghost use Rattle.layer_rules.specs.Layering.{IsShut};
 
     /// A closed region over a closed parent. Its chunk will have at least `size` bytes, 1 to 2^30,

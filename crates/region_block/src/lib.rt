@@ -3,10 +3,7 @@
 
 mod bump;
 
-ghost use Rattle.std.specs.Prelude.{◌≡◌, ◌≤◌, true};
-ghost use Rattle.layer_rules.specs.Shape.{region};
-ghost use Rattle.layer_rules.specs.Proper.{is_tree};
-ghost use Rattle.layer_rules.specs.Fields.{are_open, closed_fields};
+ghost use Rattle.std.specs.Prelude.{◌≡◌};
 ghost use Rattle.layer_rules.specs.Serving.{need_of};
 
 pub use bump::Region;

@@ -1,19 +1,17 @@
 -- The next power of two, as the machine's words find it, is the least.
-use Rattle.std.proofs.Common.{◌≡◌, refl, sym, subst, ℕ, ◌*◌, ◌/◌, ◌≤◌, ◌<◌, ◌⊎◌, inl, inr, max, arith}
+use Rattle.std.proofs.Common.{◌≡◌, refl, sym, subst, ℕ, ◌*◌, ◌/◌, ◌≤◌, ◌<◌, inl, inr, max, arith}
+use Rattle.std.proofs.lemmas.Bool.{cases_lt}
 use Rattle.size_round.specs.Sizes.{limit, power_of_two, rounded}
 use Rattle.size_round.specs.SizeMeanings.{IsPower}
 use Rattle.size_round.proofs.PowerLaws.{next_power, rounded_is_least_power}
 use Rattle.size_round.proofs.KindLaws.{rounded_is_bounded}
-
-less_or_more : (a b : ℕ) → (a < b) ⊎ (b ≤ a)
-less_or_more a b = grind arith
 
 pub next_is_least : (n p : ℕ) → 1 ≤ n → IsPower p → n ≤ p → p / 2 < max 1 n → p ≡ rounded power_of_two n
 next_is_least n p s w l h =
     let r = rounded_is_least_power n in
     let e = r.enough in
     let k = r.least p w l in
-    elim (less_or_more (rounded power_of_two n) p) [
+    elim (cases_lt (rounded power_of_two n) p) [
       | inl x ↦ absurd (let y = next_power (rounded power_of_two n) p r.has w x in omega arith)
       | inr x ↦ omega arith
     ]

@@ -71,10 +71,6 @@ powers_pass a = (
         let same : rounded power_of_two a ≡ a = grind (arith, nat_tests) in
         subst IsPower same (rounded_is_least_power a).has
 
--- the half of an even number
-pub even_half : (n : ℕ) → n % 2 ≡ 0 → n ≡ n / 2 + n / 2
-even_half n h = omega arith
-
 -- a power in n is 1, or twice a power in the half of n
 half_power : (n q : ℕ) → IsPowerIn n q → (q ≡ 1) ⊎ ((n % 2 ≡ 0) × (p : ℕ) × (q ≡ p + p) × IsPowerIn (n / 2) p)
 half_power n q ((zero, e), m) = inl e

@@ -1,8 +1,7 @@
 -- Rounding up gives the least multiple, and multiples of one number lie that number apart.
-use Rattle.std.proofs.Common.{◌≡◌, refl, ℕ, suc, ◌+◌, ◌-◌, ◌*◌, ◌<◌, ◌≤◌, ⊎_elim, arith}
-use Rattle.std.proofs.Math.Nat.{mul-le-mul_right}
+use Rattle.std.proofs.Common.{◌≡◌, refl, ℕ, suc, ◌+◌, ◌-◌, ◌*◌, ◌<◌, ◌≤◌, arith}
+use Rattle.std.proofs.Math.Nat.{mul-le-mul_right, lt_of_mul-lt-mul_right}
 use Rattle.std.proofs.lemmas.Nat.{div-add-mod', mod_below}
-use Rattle.std.proofs.lemmas.Bool.{cases_lt}
 use Rattle.size_round.specs.Sizes.{ceil_div}
 use Rattle.size_round.specs.SizeMeanings.{UpIsLeast, CeilDivIsLeast}
 
@@ -14,15 +13,11 @@ enough_times n m h = omega (arith, div-add-mod' (n + (m - 1)) m, mod_below (n + 
 pub times_below : (n m : ℕ) → 1 ≤ m → ceil_div n m * m < n + m
 times_below n m h = omega (arith, div-add-mod' (n + (m - 1)) m)
 
--- a product that is less has the less factor
-pub less_factor : (p q m : ℕ) → p * m < q * m → p < q
-less_factor p q m h = ⊎_elim (λ l. l) (λ l. let k : q * m ≤ p * m = mul-le-mul_right m l in absurd (omega arith)) (cases_lt p q)
-
 pub ceil_div-least : (n m q : ℕ) → 1 ≤ m → n ≤ q * m → ceil_div n m ≤ q
 ceil_div-least n m q h l =
     let below = times_below n m h in
     let next : suc q * m ≡ q * m + m = grind arith in
-    let c : ceil_div n m < suc q = less_factor (ceil_div n m) (suc q) m (omega arith) in
+    let c : ceil_div n m < suc q = lt_of_mul-lt-mul_right m (omega arith) in
     omega arith
 
 pub up_is_least : UpIsLeast

@@ -1,5 +1,5 @@
 // The two roundings.
-ghost use Rattle.std.specs.Prelude.{◌≡◌, ◌≤◌, ◌*◌, ◌^◌, true};
+ghost use Rattle.std.specs.Prelude.{◌≡◌, ◌≤◌, ◌*◌, true};
 ghost use Rattle.size_round.specs.Sizes.{limit, RoundingKind, power_of_two, multiple_of, rounded, is_proper_kind};
 
 use crate::up;

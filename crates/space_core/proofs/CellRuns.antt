@@ -3,6 +3,8 @@ use Rattle.std.proofs.Common.{ℕ, zero, suc, ◌≡◌, ◌≢◌, ◌+◌, ◌
 use Rattle.std.proofs.Math.Seq.{drop-cons}
 use Rattle.std.proofs.lemmas.Bool.Decides.{nat_tests}
 use Rattle.std.proofs.lemmas.List.{get_or-drop, drop-drop, length-map}
+use Rattle.std.proofs.lemmas.Bool.{and_from, and_left, and_right}
+use Rattle.std.proofs.Math.ListN.{drop_of_length-le}
 use Rattle.space_core.specs.Cells.{Cells, taken_cells, cells_with, cell_at, cells_touched, has_tag}
 use Rattle.space_core.specs.Runs.{starts_free, starts_taken, is_free_run, is_taken_run, first_run, put_run}
 
@@ -35,15 +37,9 @@ row-taken [] j h = refl
 row-taken (t ∷ T) zero h = taken_tag t (h (omega arith))
 row-taken (t ∷ T) (suc j) h = row-taken T j (λ l. h (omega arith))
 
-drop-past : {A : Type 0} (xs : List A) (c : ℕ) → length xs ≤ c → drop c xs ≡ []
-drop-past [] zero h = refl
-drop-past [] (suc c) h = refl
-drop-past (x ∷ xs) zero h = absurd (omega arith)
-drop-past (x ∷ xs) (suc c) h = drop-past xs c (omega arith)
-
 -- ---- free and taken runs
 
-starts_free-length : (n : ℕ) (us : List Bool) → starts_free n us ≡ true → n ≤ length us
+pub starts_free-length : (n : ℕ) (us : List Bool) → starts_free n us ≡ true → n ≤ length us
 unfolding starts_free
 starts_free-length zero us h = omega arith
 starts_free-length (suc n) [] h = absurd (cc)
@@ -113,18 +109,6 @@ first : (b : Bool) (x y : Option ℕ) → b ≡ true → elim b as (λ _. Option
 first true x y e = refl
 first false x y e = absurd (cc)
 
-and-false_left : (a b : Bool) → a ≡ false → (a && b) ≡ false
-and-false_left true b e = absurd (cc)
-and-false_left false b e = refl
-
-and-false_right : (a b : Bool) → b ≡ false → (a && b) ≡ false
-and-false_right true b e = e
-and-false_right false b e = refl
-
-and-true : (a b : Bool) → a ≡ true → b ≡ true → (a && b) ≡ true
-and-true true b e f = f
-and-true false b e f = absurd (cc)
-
 passed : (allowed : ℕ → Bool) (n c : ℕ) (u : Bool) (us : List Bool) → (allowed c && starts_free n (u ∷ us)) ≡ false → first_run allowed n c (u ∷ us) ≡ first_run allowed n (suc c) us
 unfolding first_run
 passed allowed n c u us e = second (allowed c && starts_free n (u ∷ us)) (Some c) (first_run allowed n (suc c) us) e
@@ -139,10 +123,10 @@ unfolding first_run
 skipped allowed n c k [] l e = refl
 skipped allowed n c zero (u ∷ us) l e =
     let q : c + 1 ≡ suc c = omega arith in
-    rw q (passed allowed n c u us (and-false_right (allowed c) (starts_free n (u ∷ us)) (not_free n zero (u ∷ us) l e)))
+    rw q (passed allowed n c u us (and_right (allowed c) (starts_free n (u ∷ us)) (not_free n zero (u ∷ us) l e)))
 skipped allowed n c (suc k) (u ∷ us) l e =
     let q : c + suc (suc k) ≡ suc c + suc k = omega arith in
-    rw q (passed allowed n c u us (and-false_right (allowed c) (starts_free n (u ∷ us)) (not_free n (suc k) (u ∷ us) l e)) ∙ skipped allowed n (suc c) k us (omega arith) e)
+    rw q (passed allowed n c u us (and_right (allowed c) (starts_free n (u ∷ us)) (not_free n (suc k) (u ∷ us) l e)) ∙ skipped allowed n (suc c) k us (omega arith) e)
 
 -- the first run that begins at cell c or behind it
 abbrev pub first_from : (allowed : ℕ → Bool) (n : ℕ) → List ℕ → ℕ → Option ℕ
@@ -150,18 +134,18 @@ first_from allowed n T c = first_run allowed n c (drop c (row T))
 
 pub first-end : (allowed : ℕ → Bool) (n : ℕ) (T : List ℕ) (c : ℕ) → length T ≤ c → first_from allowed n T c ≡ None
 unfolding first_run
-first-end allowed n T c h = let k : length (row T) ≤ c = rw length-row h in rw (drop-past (row T) c k) refl
+first-end allowed n T c h = let k : length (row T) ≤ c = rw length-row h in rw (drop_of_length-le (row T) k) refl
 
 pub first-unaligned : (allowed : ℕ → Bool) (n : ℕ) (T : List ℕ) (c : ℕ) → c < length T → allowed c ≡ false → first_from allowed n T c ≡ first_from allowed n T (c + 1)
 first-unaligned allowed n T c h e =
     let q : c + 1 ≡ suc c = omega arith in
     let u = not (nat_eq (get_or T c 0) 0) in
-    rw (row-cons T c h, q) (passed allowed n c u (drop (suc c) (row T)) (and-false_left (allowed c) (starts_free n (u ∷ drop (suc c) (row T))) e))
+    rw (row-cons T c h, q) (passed allowed n c u (drop (suc c) (row T)) (and_left (allowed c) (starts_free n (u ∷ drop (suc c) (row T))) e))
 
 pub first-here : (allowed : ℕ → Bool) (n : ℕ) (T : List ℕ) (c : ℕ) → c < length T → allowed c ≡ true → is_free_run (row T) c n ≡ true → first_from allowed n T c ≡ Some c
 first-here allowed n T c h e f =
     let g = rw (row-cons T c h) at f in
-    rw (row-cons T c h) (found allowed n c (not (nat_eq (get_or T c 0) 0)) (drop (c + 1) (row T)) (and-true (allowed c) (starts_free n (not (nat_eq (get_or T c 0) 0) ∷ drop (c + 1) (row T))) e g))
+    rw (row-cons T c h) (found allowed n c (not (nat_eq (get_or T c 0) 0)) (drop (c + 1) (row T)) (and_from (allowed c) (starts_free n (not (nat_eq (get_or T c 0) 0) ∷ drop (c + 1) (row T))) e g))
 
 pub first-behind : (allowed : ℕ → Bool) (n : ℕ) (T : List ℕ) (c j : ℕ) → c ≤ j → j < c + n → (j < length T → get_or T j 0 ≢ 0) → first_from allowed n T c ≡ first_from allowed n T (j + 1)
 first-behind allowed n T c j a b h =

@@ -5,7 +5,7 @@ mod leaf;
 mod runs;
 mod words;
 
-ghost use Rattle.std.specs.Prelude.{◌≡◌, ℕ, ◌+◌, ◌*◌, ◌≤◌, ◌<◌, ◌↔◌, true, false, length, slice_index, slice_set, option_map, IsNone, IfNone, IfSome, OnSome, OnOk, OnErr};
+ghost use Rattle.std.specs.Prelude.{◌≡◌, ◌+◌, ◌*◌, ◌≤◌, ◌<◌, ◌↔◌, true, false, length, slice_index, slice_set, option_map, IsNone, IfNone, IfSome, OnSome, OnOk, OnErr};
 ghost use Rattle.size_round.specs.Sizes.{limit};
 ghost use Rattle.space_core.specs.Cells.{cell_size, used_by, free_tag, tag_cells, least_cells, cells_granted, has_tag, cells_given};
 ghost use Rattle.space_core.specs.Memory.{IsMemory, most_cells, most_leaves, no_memory, fresh_memory};

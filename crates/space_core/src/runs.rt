@@ -1,5 +1,5 @@
 //! Runs of cells in a table of tags, where 0 is free.
-ghost use Rattle.std.specs.Prelude.{◌≡◌, ◌≢◌, ℕ, ◌+◌, ◌≤◌, ◌<◌, ◌^◌, true, length, slice_index, map, count_by, nat_eq, cond, IfSome, IfNone};
+ghost use Rattle.std.specs.Prelude.{◌≡◌, ◌≢◌, ◌+◌, ◌≤◌, ◌<◌, ◌^◌, true, length, slice_index, map, count_by, nat_eq, cond, IfSome, IfNone};
 ghost use Rattle.space_core.specs.Cells.{taken_cells, is_aligned_cell};
 ghost use Rattle.space_core.specs.Memory.{most_cells};
 ghost use Rattle.space_core.specs.Runs.{is_free_run, first_run, put_run};

@@ -1,5 +1,6 @@
 use Rattle.std.proofs.Common.{arith}
-use Rattle.region_block.proofs.Standing.{sized, in_space-at, below-at, le-up}
+use Rattle.size_round.proofs.UpLeast.{enough_times}
+use Rattle.region_block.proofs.Standing.{sized, in_space-at, below-at}
 use Rattle.region_block.proofs.bump.RegionLayer.deallocate.Goals as goal
 
 pub up-requires-clause-some : goal.up-requires-clause-some
@@ -11,7 +12,7 @@ up-requires-clause-fits g c =
     let t = g.P.Layer.tree l.parent in
     let i = in_space-at l.size l.align l.bump c.in-Some.bump t c.args._space.now c.in-Some.is (g.met.P.Layer.shaped l.parent) l.proper l.together c.requires.stands in
     let b = below-at l.size l.align l.bump c.in-Some.bump t c.args._space.now c.args.b c.in-Some.is c.requires.out in
-    let u = le-up c.args.b.len l.align i.align_some in
+    let u = enough_times c.args.b.len l.align i.align_some in
     omega (arith, i.stop, i.inside, i.align_most, b.upto, u)
 
 pub overflow_add-b : goal.overflow_add-b

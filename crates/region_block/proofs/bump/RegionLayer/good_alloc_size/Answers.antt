@@ -1,5 +1,6 @@
 use Rattle.std.proofs.Common.{arith}
-use Rattle.region_block.proofs.Standing.{sized, le-up}
+use Rattle.size_round.proofs.UpLeast.{enough_times}
+use Rattle.region_block.proofs.Standing.{sized}
 use Rattle.region_block.proofs.bump.RegionLayer.good_alloc_size.Goals as goal
 
 pub up-requires-clause-some : goal.up-requires-clause-some
@@ -15,5 +16,5 @@ pub returns-clause-enough : goal.returns-clause-enough
 returns-clause-enough g c =
     let l = c.args.self.now in
     let z = sized l.size l.align (g.P.Layer.tree l.parent).shape l.proper in
-    let u = le-up c.args.n l.align z.align_some in
+    let u = enough_times c.args.n l.align z.align_some in
     rw c.up.ensures u
