@@ -1,11 +1,11 @@
 -- What a look-up finds in a table of names, and what an edit at a place does.
-use Rattle.std.proofs.Common.{◌≡◌, ℕ, zero, suc, ◌+◌, ◌-◌, ◌*◌, ◌^◌, ◌<◌, ◌≤◌, ◌≢◌, List, [], ◌∷◌, length, get_or, take, Some, None, Result, Ok, Err, IfOk, IfErr, refl, sym, ap, subst, arith}
+use Rattle.std.proofs.Common.{◌≡◌, ℕ, zero, suc, ◌+◌, ◌*◌, ◌^◌, ◌<◌, ◌≤◌, ◌≢◌, List, [], ◌∷◌, length, get_or, take, Some, None, Result, Ok, Err, IfOk, IfErr, refl, sym, ap, arith}
 use Rattle.std.specs.List.{insert, remove, sum_by}
 use Rattle.std.specs.List.Sorted.{IsSearchInRange, IsBinarySearchResult, IsNonDecreasingBy}
 use Rattle.std.specs.Ordering.{nat_cmp, ordering_index}
 use Rattle.std.proofs.lemmas.Cmp.{ranked}
 use Rattle.std.proofs.lemmas.List.Sorted.{IsNonDecreasingBy-from_default}
-use Rattle.std.proofs.lemmas.List.Edits.{length-insert, get_or-insert_below, get_or-insert_at, get_or-insert_above, length-remove, get_or-remove_below, get_or-remove_above}
+use Rattle.std.proofs.lemmas.List.Edits.{length-remove, get_or-remove_below, get_or-remove_above}
 use Rattle.std.proofs.lemmas.Bool.Decides.{nat_tests}
 use Rattle.std.proofs.lemmas.List.Sums.{sum_by_more_le, sum_by-cons}
 use Rattle.size_round.specs.Sizes.{limit}
@@ -13,7 +13,6 @@ use Rattle.layer_rules.specs.Blocks.{no_block}
 use Rattle.layer_rules.specs.Rows.{Each}
 use Rattle.heap_core.specs.declared.Named.{Named}
 use Rattle.heap_core.specs.Names.{named_at, with_named, without_name, name_at, IsTable, IsAt, IsGapFor}
-use Rattle.heap_core.specs.Performing.{most_live}
 
 -- what is read past the end
 abbrev pub past_end : Named
@@ -92,28 +91,6 @@ insert-with [] x (suc at) gap = absurd (omega (arith, gap.in_range))
 insert-with (y ∷ l) x zero gap = grind (arith, nat_tests, gap.greater_after 0 (omega arith) (omega arith))
 insert-with (y ∷ l) x (suc at) gap = grind (arith, nat_tests, gap.smaller_before 0 (omega arith), insert-with l x at (gap_tail y l x.name at gap))
 
-pub rising_insert : (l : List Named) (x : Named) (at : ℕ) → IsGapFor l x.name at → IsRising l → IsRising (insert l at x)
-rising_insert l x at gap rising i j lt in_range =
-    let new = insert l at x in
-    let name = λ (y : Named). y.name in
-    let length_new = length-insert l at x gap.in_range in
-    let name_below : (i : ℕ) → i < at → name_at new i ≡ name_at l i = λ i below. ap name (get_or-insert_below l at x past_end i below gap.in_range) in
-    let name_here : (i : ℕ) → i ≡ at → name_at new i ≡ x.name = λ i here. rw here (ap name (get_or-insert_at l at x past_end gap.in_range)) in
-    let name_above : (i : ℕ) → at < i → name_at new i ≡ name_at l (i - 1) = λ i above. subst (λ q. name_at new q ≡ name_at l (i - 1)) {x = i - 1 + 1} (omega arith) (ap name (get_or-insert_above l at x past_end (i - 1) (omega arith) gap.in_range)) in
-    grind (arith, name_below i, name_here i, name_above i, name_below j, name_here j, name_above j, rising i j, rising i (j - 1), rising (i - 1) (j - 1), gap.smaller_before i, gap.greater_after (j - 1))
-
-pub Each-insert : (P : Named → Type 0) (l : List Named) (x : Named) (at : ℕ) → P x → Each P l → Each P (insert l at x)
-Each-insert P l x zero p h = (p, h)
-Each-insert P [] x (suc at) p h = (p, h)
-Each-insert P (y ∷ l) x (suc at) p h = (h.0, Each-insert P l x at p h.1)
-
-pub table_insert : (l : List Named) (x : Named) (at : ℕ) → IsTable l → IsGapFor l x.name at → length l < most_live → x.block.len ≤ limit → IsTable (insert l at x)
-table_insert l x at h gap room short = record {
-  rising = rising_insert l x at gap h.rising;
-  most = omega (arith, length-insert l at x gap.in_range);
-  short = Each-insert (λ y. y.block.len ≤ limit) l x at short h.short;
-}
-
 -- ---- an entry is taken out
 
 -- a table of greater names stays whole
@@ -166,12 +143,6 @@ pub sum-fits : (f : Named → ℕ) (l : List Named) (i total : ℕ) → IsTable 
 sum-fits f l i total h short e lt =
     let part = sum_by_more_le f l i past_end lt in
     omega (arith, sum-bound f l short, h.most, e)
-
--- what holds of each entry holds at each place
-pub each-index : (P : Named → Type 0) (l : List Named) (i : ℕ) → i < length l → Each P l → P (get_or l i past_end)
-each-index P [] i lt h = absurd (omega arith)
-each-index P (x ∷ l) zero lt h = h.0
-each-index P (x ∷ l) (suc i) lt h = each-index P l i (omega arith) h.1
 
 -- without a name that isn't there
 pub without-absent : (l : List Named) (k : ℕ) → named_at l k ≡ None → without_name k l ≡ l

@@ -12,7 +12,8 @@ use Rattle.layer_laws.proofs.Basics.{and-fst}
 use Rattle.layer_laws.proofs.Wellness.{IsWell}
 use Rattle.layer_laws.proofs.Properness.{well-from}
 use Rattle.layer_laws.proofs.Covering.{covers}
-use Rattle.layer_laws.proofs.Aligned.{aligned, mod-of_multiple}
+use Rattle.layer_laws.proofs.Aligned.{aligned}
+use Rattle.layer_laws.proofs.CellRooms.{rest_of_multiple}
 use Rattle.layer_laws.proofs.Tags.{out-in_range}
 use Rattle.heap_core.specs.World.{World, Live, live_at}
 use Rattle.heap_core.specs.Performing.{Run}
@@ -45,7 +46,7 @@ module _ (e : Shape) (count leaves : ℕ) (r : Run) (h : IsHeldRun e count leave
   in-area x o = let l = out-in_range e well x.block r.state r.cells h.sound.settled o in omega (arith, l, h.size)
 
   at-multiple : (x : Live) → Out x → x.block.place % alignment e ≡ 0
-  at-multiple x o = mod-of_multiple x.block.place (alignment e) (aligned e (and-fst _ _ h.proper) well x.block r.state r.cells h.sound.settled o)
+  at-multiple x o = rest_of_multiple x.block.place (alignment e) (aligned e (and-fst _ _ h.proper) well x.block r.state r.cells h.sound.settled o)
 
   share-none : (x y : Live) → Out x → Out y → is_apart (extent e x.block r.state) (extent e y.block r.state) ≡ true → is_apart x.block y.block ≡ true
   share-none x y o p a = inner-apart x.block y.block (extent e x.block r.state) (extent e y.block r.state) (in-extent x o) (in-extent y p) a

@@ -1,9 +1,8 @@
 -- What a call does to a run that a heap can be in.
-use Rattle.std.proofs.Common.{◌≡◌, subst, ◌≢◌, refl, sym, ap, ◌∙◌, ℕ, ◌≤◌, Bool, true, false, ◌&&◌, nat_le, length, replicate, Option, Some, None, is_some, Err, IfOk, arith}
-use Rattle.std.proofs.lemmas.Bool.Decides.{nat_tests}
+use Rattle.std.proofs.Common.{◌≡◌, subst, ◌≢◌, refl, sym, ap, ◌∙◌, ℕ, Bool, true, false, nat_le, length, replicate, Option, Some, None, is_some, Err, IfOk, arith}
 use Rattle.space_core.specs.Cells.{Cells}
 use Rattle.layer_rules.specs.declared.Block.{Block}
-use Rattle.layer_rules.specs.Blocks.{block, end_of, is_apart, lies_in}
+use Rattle.layer_rules.specs.Blocks.{block, is_apart}
 use Rattle.layer_rules.specs.Rows.{Each, EachPair}
 use Rattle.layer_rules.specs.Shape.{Shape}
 use Rattle.layer_rules.specs.State.{State, is_open}
@@ -17,7 +16,10 @@ use Rattle.layer_rules.specs.Soundness.{IsSettled}
 use Rattle.layer_laws.proofs.Wellness.{IsWell}
 use Rattle.layer_laws.proofs.Properness.{well-from}
 use Rattle.layer_laws.proofs.Covering.{covers}
-use Rattle.layer_laws.proofs.Aligned.{aligned, mod-of_multiple}
+use Rattle.layer_laws.proofs.Aligned.{aligned}
+use Rattle.layer_laws.proofs.Basics.{and-fst}
+use Rattle.layer_laws.proofs.BlockLaws.{inside-of}
+use Rattle.layer_laws.proofs.CellRooms.{rest_of_multiple}
 use Rattle.layer_laws.proofs.Tags.{out-in_range, no-cell}
 use Rattle.layer_laws.proofs.Opens.{open-fresh}
 use Rattle.layer_laws.proofs.Good.{IsGood}
@@ -41,17 +43,11 @@ pub record IsStep (e : Shape) (count leaves : ℕ) (call : Call) (old : World) (
   pub held : IsHeldRun e count leaves p.1
   pub moves : IfOk p.0 (λ answer. Moves (alignment e) count old call answer p.1.world)
 
-first-true : (a b : Bool) → (a && b) ≡ true → a ≡ true
-first-true true b h = refl
-first-true false b h = absurd (cc)
-
 -- a block in its extent
-inside : (b x : Block) → x.place ≤ b.place → end_of b ≤ end_of x → lies_in b x ≡ true
-inside b x h k = grind (arith, nat_tests)
 
 module _ (e : Shape) (count leaves : ℕ) (r : Run) (h : IsHeldRun e count leaves r) where
   well : IsWell e
-  well = well-from e (first-true _ _ h.proper) h.sound.distinct h.sound.made.least h.covered
+  well = well-from e (and-fst _ _ h.proper) h.sound.distinct h.sound.made.least h.covered
 
   kept-run : (s : State) (cells : Cells) (w : World) → is_open s ≡ true → IsSettled e s cells → length cells.tags ≡ count → ((b : Block) → extent e b s ≡ extent e b r.state)
       → Each (λ (x : Live). is_out e x.block s cells ≡ true) w → EachPair (λ (x y : Live). is_apart (extent e x.block r.state) (extent e y.block r.state) ≡ true) w
@@ -88,8 +84,8 @@ module _ (e : Shape) (count leaves : ℕ) (r : Run) (h : IsHeldRun e count leave
       let same : block b.place size ≡ b = ap (block b.place) (sym len) in
       let beside : (y : Live) → is_out e y.block r.state r.cells ≡ true → is_apart b y.block ≡ true = λ y o.
       let there = covers e well y.block r.state r.cells h.sound.settled o in
-      inner-apart b y.block (extent e b r.state) (extent e y.block r.state) (rw (g.extents b) at (inside b (extent e b x.state) here.from here.upto))
-      (inside y.block (extent e y.block r.state) there.from there.upto) (g.fresh p q y.block o).either in
+      inner-apart b y.block (extent e b r.state) (extent e y.block r.state) (rw (g.extents b) at (inside-of b (extent e b x.state) here.from here.upto))
+      (inside-of y.block (extent e y.block r.state) there.from there.upto) (g.fresh p q y.block o).either in
       let now : live_at (with_live new w) name ≡ Some new = live-with_same new w fresh in
       record {
         held = kept-run x.state x.cells (with_live new w) g.is_set g.settled n g.extents
@@ -104,7 +100,7 @@ module _ (e : Shape) (count leaves : ℕ) (r : Run) (h : IsHeldRun e count leave
             inside = let l = out-in_range e well b x.state x.cells g.settled out in omega (arith, l, n);
             apart = each-from (λ (y : Live). is_out e y.block r.state r.cells ≡ true) (λ (y : Live). is_apart b y.block ≡ true) w beside h.out;
           });
-          aligned = mod-of_multiple b.place (alignment e) (aligned e (first-true _ _ h.proper) well b x.state x.cells g.settled out);
+          aligned = rest_of_multiple b.place (alignment e) (aligned e (and-fst _ _ h.proper) well b x.state x.cells g.settled out);
           now = rw (same, ← len) now;
           others = record { at = λ other ne. live-with_other new w other ne };
         };
@@ -159,7 +155,7 @@ performed-moves e count leaves call r h = (performed-step e count leaves call r 
 
 pub begins-held_run : BeginsHeld
 begins-held_run e cells leaves o p c d m n q =
-    let w = well-from e (first-true _ _ p) d m.least c in
+    let w = well-from e (and-fst _ _ p) d m.least c in
     let fresh = open-fresh e w 0 cells o (no-cell e cells w n) q in
     let size : length o.cells.tags ≡ length cells.tags = subst (OpensCount cells) q (open-count e c 0 cells) in
     record { proper = p; covered = c; opened = fresh.is_set; sound = record { distinct = d; made = m; settled = fresh.settled }; size = size; out = tt; apart = tt }

@@ -34,7 +34,7 @@ use Rattle.heap_core.specs.Holding.{bytes_of, world_of, run_in, Held}
 use Rattle.heap_core.specs.Heap.{Performs}
 use Rattle.heap_core.proofs.WorldLemmas.{length-world, is_live-world, live-none, live-some, world-with, world-without, world-same, each-from, each-both, each_pair-from, each-at, each-with, each_pair-with, each-without, each_pair-without, each-other}
 use Rattle.heap_core.proofs.ByteLemmas.{slice-same, slice-filled, fill-keeps, inner-apart, apart-flip}
-use Rattle.layer_laws.proofs.AfterCalls.{allocated-stands, allocated-gives, allocated-keeps_out, allocated-keeps_extents, released-stands, released-keeps_out, released-keeps_extents}
+use Rattle.layer_laws.proofs.AfterCalls.{answered, allocated-stands, allocated-gives, allocated-keeps_out, allocated-keeps_extents, released-stands, released-keeps_out, released-keeps_extents}
 use Rattle.layer_laws.proofs.Writes.{write-stands, write-keeps_state, write-keeps_out, write-keeps_clean, out-placed, out-in_space}
 use Rattle.layer_laws.proofs.Lives.{set_up-stands}
 use Rattle.heap_core.proofs.HeldLemmas.{held-run}
@@ -239,14 +239,6 @@ module _ (t t' : Tree) (table : List Named) (m m' : Memory) (size : ℕ) (b : Bl
           bytes = record { at = λ i from upto. second.at i from upto ∙ first.at i from upto };
         }
 
-is_none-none : (o : Option Block) → is_some o ≡ false → o ≡ None
-is_none-none None h = refl
-is_none-none (Some b) h = absurd (cc)
-
-block-in : (o : Option Placed) (b : Block) → Some b ≡ block_in o → (p : Placed) × (o ≡ Some p) × (p.block ≡ b)
-block-in None b e = absurd (cc)
-block-in (Some p) b e = let q : p.block ≡ b = cc in (p, refl, q)
-
 -- the world with the new block
 abbrev pub world_with : List Named → Memory → (name size : ℕ) → Block → World
 world_with table m name size b = with_live (live name b (replicate size 0)) (world_of table m.bytes)
@@ -290,7 +282,7 @@ module _ (t t' : Tree) (table : List Named) (m m' v : Memory) (name size : ℕ) 
       let x = served t m size in
       let w = world_of table m.bytes in
       let n = now-filled in
-      let p = block-in x.answer b a.answer in
+      let p = answered b x.answer a.answer in
       let cells : v.cells ≡ x.cells = (fill-changes t t' table m m' size b h l' a v f).cells ∙ a.cells in
       let state = n.state ∙ a.state in
       let run : run_in t' (with_named (record { name = name; block = b }) table) v ≡ run_of x.state x.cells (world_with table m name size b) =

@@ -105,15 +105,15 @@ each_pair-with R flip x (y ∷ l) p h =
 
 -- ---- an entry less
 
-each-cons : (P : Named → Type 0) (name : ℕ) (x : Named) (l : List Named) (t : Bool) → nat_eq x.name name ≡ t → (x.name ≢ name → P x) → Each P l → Each P (cond (not t) (x ∷ l) l)
-each-cons P name x l true e p h = h
-each-cons P name x l false e p h = (p (grind (arith, nat_tests)), h)
+each-cons : {X : Type 0} (P : X → Type 0) (named name : ℕ) (x : X) (l : List X) (t : Bool) → nat_eq named name ≡ t → (named ≢ name → P x) → Each P l → Each P (cond (not t) (x ∷ l) l)
+each-cons P named name x l true e p h = h
+each-cons P named name x l false e p h = (p (grind (arith, nat_tests)), h)
 
 pub each-without : (P : Named → Type 0) (name : ℕ) (l : List Named) → Each (λ (x : Named). x.name ≢ name → P x) l → Each P (without_name name l)
 each-without P name [] h = tt
-each-without P name (x ∷ l) h = each-cons P name x (without_name name l) _ refl h.0 (each-without P name l h.1)
+each-without P name (x ∷ l) h = each-cons P x.name name x (without_name name l) _ refl h.0 (each-without P name l h.1)
 
-each_pair-cons : (R : Named → Named → Type 0) (x : Named) (l : List Named) (t : Bool) → Each (R x) l → EachPair R l → EachPair R (cond (not t) (x ∷ l) l)
+each_pair-cons : {X : Type 0} (R : X → X → Type 0) (x : X) (l : List X) (t : Bool) → Each (R x) l → EachPair R l → EachPair R (cond (not t) (x ∷ l) l)
 each_pair-cons R x l true p h = h
 each_pair-cons R x l false p h = (p, h)
 
@@ -166,22 +166,14 @@ each_pair-live_with R flip x (y ∷ w) p h =
       | false ↦ (each-live_with (R y) x w (flip x y p.0) h.0, each_pair-live_with R flip x w p.1 h.1)
     ]
 
-live-cons : (P : Live → Type 0) (name : ℕ) (x : Live) (w : World) (t : Bool) → nat_eq x.name name ≡ t → (x.name ≢ name → P x) → Each P w → Each P (cond (not t) (x ∷ w) w)
-live-cons P name x w true e p h = h
-live-cons P name x w false e p h = (p (grind (arith, nat_tests)), h)
-
 pub each-live_without : (P : Live → Type 0) (name : ℕ) (w : World) → Each (λ (x : Live). x.name ≢ name → P x) w → Each P (without name w)
 each-live_without P name [] h = tt
-each-live_without P name (x ∷ w) h = live-cons P name x (without name w) _ refl h.0 (each-live_without P name w h.1)
-
-pair-cons : (R : Live → Live → Type 0) (x : Live) (w : World) (t : Bool) → Each (R x) w → EachPair R w → EachPair R (cond (not t) (x ∷ w) w)
-pair-cons R x w true p h = h
-pair-cons R x w false p h = (p, h)
+each-live_without P name (x ∷ w) h = each-cons P x.name name x (without name w) _ refl h.0 (each-live_without P name w h.1)
 
 pub each_pair-live_without : (R : Live → Live → Type 0) (name : ℕ) (w : World) → EachPair R w → EachPair R (without name w)
 each_pair-live_without R name [] h = tt
 each_pair-live_without R name (x ∷ w) h =
-    pair-cons R x (without name w) (nat_eq x.name name)
+    each_pair-cons R x (without name w) (nat_eq x.name name)
     (each-live_without (R x) name w (each-from (R x) (λ (y : Live). y.name ≢ name → R x y) w (λ y r n. r) h.0)) (each_pair-live_without R name w h.1)
 
 -- what is live under a name against each other name

@@ -1,5 +1,5 @@
 //! The heap: blocks of a root layer, by name.
-ghost use Rattle.std.specs.Prelude.{◌≡◌, ◌≤◌, ◌<◌, [], None, length, IfOk, IfErr, OnErr, is_some, sum_by, option_map};
+ghost use Rattle.std.specs.Prelude.{◌≡◌, length, IfOk, IfErr, OnErr, sum_by};
 ghost use Rattle.layer_rules.specs.Offering.{alignment};
 ghost use Rattle.layer_rules.specs.Serving.{open_tree};
 ghost use Rattle.layer_rules.specs.Layering.{Stands, IsShut};
@@ -13,14 +13,17 @@ use crate::{Answer, Call, CallFault, Named};
 use layer_core::{Block, Layer};
 use space_core::Space;
 use std::alloc::Global;
+use thiserror::Error;
 
 /// Why no heap was made.
-#[derive(Clone, Copy, Debug, PartialEq, Eq)]
+#[derive(Clone, Copy, Debug, PartialEq, Eq, Error)]
 pub enum MakeFault {
     /// The process has no memory for the table of live blocks. The Space is as before.
+    #[error("out of memory")]
     NoMemory,
     /// The root can't be opened: the node that refused, counted in preorder from the root as 0.
     /// The table of cells is as before.
+    #[error("opening refused at node {node}")]
     Refused { node: u32 },
 }
 

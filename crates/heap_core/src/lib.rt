@@ -8,6 +8,7 @@ mod table;
 
 pub use heap::{Heap, MakeFault};
 pub use layer_core::Block;
+use thiserror::Error;
 
 /// A call on the heap.
 #[derive(Clone, Copy, Debug, PartialEq, Eq)]
@@ -30,13 +31,16 @@ pub enum Answer {
 }
 
 /// Why a call is not performed. All is as before then.
-#[derive(Clone, Copy, Debug, PartialEq, Eq)]
+#[derive(Clone, Copy, Debug, PartialEq, Eq, Error)]
 pub enum CallFault {
     /// A block under this name is live already.
+    #[error("name is live")]
     NameLive,
     /// No block under this name is live.
+    #[error("name is not live")]
     NameNotLive,
     /// 65,536 names are live.
+    #[error("too many live blocks")]
     TooManyLive,
 }
 

@@ -10,27 +10,32 @@ mod tests;
 
 use arrayvec::ArrayString;
 use heap_core::CallFault;
-pub use print::{answer_line, fault_line, print_call};
+pub use print::{answer_line, fault_line, print_call, push_number};
 pub use read::read_line;
+use thiserror::Error;
 
 /// A line of text, of at most 512 bytes.
 pub type Line = ArrayString<512>;
 
 /// Why a line is no call.
-#[derive(Clone, Copy, Debug, PartialEq, Eq)]
+#[derive(Clone, Copy, Debug, PartialEq, Eq, Error)]
 pub enum LineFault {
     /// A line of another kind, or of none.
+    #[error("not built yet")]
     NotBuiltYet,
 }
 
 /// Why a trace ends before its last line.
-#[derive(Clone, Copy, Debug, PartialEq, Eq)]
+#[derive(Clone, Copy, Debug, PartialEq, Eq, Error)]
 pub enum TraceFault {
     /// The line is no call.
+    #[error(transparent)]
     Line { fault: LineFault },
     /// The call may not be made.
+    #[error(transparent)]
     Call { fault: CallFault },
     /// The trace has more bytes than are read.
+    #[error("too much input")]
     TooMuchInput,
 }
 

@@ -8,8 +8,8 @@ use crate::{Line, LineFault, TraceFault};
 use heap_core::{Answer, Call, CallFault};
 use itoa::Buffer;
 
-// Appends a number in digits.
-fn push_number(line: &mut Line, number: u64)
+/// Appends a number in digits, with no zero in front, to a line that has room for the 20 of the longest.
+pub fn push_number(line: &mut Line, number: u64)
     requires { array_string_len line.old + 20 ≤ 512 }
     ensures bytes { line.new.bytes ≡ line.old.bytes ++ decimal number }
     ensures len { array_string_len line.new ≤ array_string_len line.old + 20 }

@@ -1,84 +1,60 @@
 // Lines read as calls.
-ghost use Rattle.std.specs.Prelude.{◌≡◌, ◌≤◌, ◌<◌, ◌+◌, ◌*◌, ◌^◌, ◌∷◌, length, IfSome, MatchOption};
-ghost use Rattle.std.specs.List.{position_or_len};
-ghost use Rattle.std.specs.Char.{digit_value, is_ascii_digit};
-ghost use Rattle.std.specs.Option.{option_copied};
-ghost use Rattle.trace_text.specs.Grammar.{allocate_call, begins_number, fields_call, fields_of, free_call, is_letter, is_space, line_call, number_of};
-ghost use Rattle.trace_text.specs.Reading.{ReadsDigits, fields_left};
+ghost use Rattle.std.specs.Prelude.{◌≡◌, ◌≤◌, ◌<◌, ◌^◌, ◌∷◌, IfSome, true};
+ghost use Rattle.std.specs.List.{position};
+ghost use Rattle.std.specs.Option.{SomeIff, option_copied};
+ghost use Rattle.std.specs.Str.{all_ascii_digits};
+ghost use Rattle.std.specs.Str.Parse.{digits_value};
+ghost use Rattle.trace_text.specs.Grammar.{allocate_call, fields_call, fields_of, free_call, is_letter, is_space, line_call, number_of};
+ghost use Rattle.trace_text.specs.Reading.{fields_left};
 
 use crate::LineFault;
 use heap_core::Call;
 
-// The length of the first field.
-fn field_len(line: &[u8]) -> usize
-    ensures { result ≡ position_or_len is_space line.now }
+// Where the first space stands.
+fn first_space(line: &[u8]) -> Option<usize>
+    ensures { result ≡ position is_space line.now }
 {
-    for (i, byte) in line.iter().enumerate() {
-        if *byte == b' ' {
-            return i;
-        }
-    }
-    line.len()
+    line.iter().position(|byte| *byte == b' ')
 }
 
 // The first field, and what stands behind the space after it.
+#[tactic(auto, using(crate::proofs::Fields::cut_none, crate::proofs::Fields::cut_some))]
 fn cut_field(line: &[u8]) -> (&[u8], Option<&[u8]>)
     ensures { fields_of line.now ≡ result.0.now ∷ fields_left (option_copied result.1) }
 {
-    let len = field_len(line);
-    if len == line.len() {
-        return (line, None);
+    match first_space(line) {
+        Some(end) => (&line[..end], Some(&line[end + 1..])),
+        None => (line, None),
     }
-    let (field, rest) = line.split_at(len);
-    let (_, behind) = rest.split_at(1);
-    (field, Some(behind))
 }
 
-// Ten times the value and a digit, where that fits.
-fn digit_more(value: u64, byte: u8) -> Option<u64>
-    requires { digit_value byte < 10 }
-    ensures { MatchOption result (2 ^ 64 ≤ value * 10 + digit_value byte) (λ sum. sum ≡ value * 10 + digit_value byte) }
-{
-    value.checked_mul(10)?.checked_add(u64::from(byte - b'0'))
-}
-
-// The number that digits say, with zeros in front or not.
+// The number that digits say, with zeros in front or not, where it fits 64 bits.
+#[tactic(auto, using(crate::proofs::Numbers::digit_rules))]
 fn read_digits(field: &[u8]) -> Option<u64>
-    ensures { ReadsDigits field.now result }
+    ensures { SomeIff result ((all_ascii_digits field.now ≡ true) × (digits_value 10 field.now < 2 ^ 64)) (digits_value 10 field.now) }
 {
-    let mut value = 0;
+    let mut value: u64 = 0;
     for byte in field {
-        if !byte.is_ascii_digit() {
-            return None;
-        }
-        value = digit_more(value, *byte)?;
+        let digit = char::from(*byte).to_digit(10)?;
+        value = value.checked_mul(10)?.checked_add(u64::from(digit))?;
     }
     Some(value)
 }
 
-// Whether there is a byte, and no zero before others.
-fn begins_number(field: &[u8]) -> bool
-    ensures { result ≡ begins_number field.now }
-{
-    match field {
-        [] | [b'0', _, ..] => false,
-        _ => true,
-    }
-}
-
 // The number that a field says, where it is at most so large.
+#[tactic(auto, unfolding(crate::specs::Grammar::number_of))]
 fn read_number(most: u64, field: &[u8]) -> Option<u64>
     ensures number { result ≡ number_of most field.now }
     ensures bound { IfSome result (λ number. number ≤ most) }
 {
-    if !begins_number(field) {
-        return None;
+    match field {
+        [] | [b'0', _, ..] => None,
+        _ => read_digits(field).filter(|number| *number <= most),
     }
-    let number = read_digits(field)?;
-    if number <= most { Some(number) } else { None }
 }
 
 // The allocation under this name, of the size behind it.
+#[tactic(auto, unfolding(crate::specs::Grammar::allocate_call))]
 fn read_size(name: &[u8], size: &[u8]) -> Result<Call, LineFault>
     ensures { result ≡ allocate_call (name.now ∷ fields_of size.now) }
 {
@@ -95,6 +71,7 @@ fn read_size(name: &[u8], size: &[u8]) -> Result<Call, LineFault>
 }
 
 // An allocation, by a name and a size.
+#[tactic(auto, unfolding(crate::specs::Grammar::allocate_call))]
 fn read_allocate(numbers: &[u8]) -> Result<Call, LineFault>
     ensures { result ≡ allocate_call (fields_of numbers.now) }
 {
@@ -106,6 +83,7 @@ fn read_allocate(numbers: &[u8]) -> Result<Call, LineFault>
 }
 
 // A free, by a name.
+#[tactic(auto, unfolding(crate::specs::Grammar::free_call))]
 fn read_free(numbers: &[u8]) -> Result<Call, LineFault>
     ensures { result ≡ free_call (fields_of numbers.now) }
 {
@@ -145,6 +123,7 @@ fn read_call(letter: &[u8], numbers: &[u8]) -> Result<Call, LineFault>
 /// # Errors
 /// `NotBuiltYet` for each line but `a NAME SIZE` and `f NAME` with single spaces and decimal numbers with no zero in
 /// front, where a name is at most 2^32 - 1 and a size, in bytes, at most 2^64 - 1.
+#[tactic(auto, unfolding(crate::specs::Grammar::line_call, crate::specs::Grammar::fields_call, crate::specs::Grammar::allocate_call, crate::specs::Grammar::free_call))]
 pub fn read_line(line: &[u8]) -> Result<Call, LineFault>
     ensures { result ≡ line_call line.now }
 {
