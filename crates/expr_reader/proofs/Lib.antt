@@ -9,3 +9,4 @@ pub mod Whole
 pub mod Texts
 pub mod Printed
 pub mod Builds
+pub mod Again

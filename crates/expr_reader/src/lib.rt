@@ -12,7 +12,7 @@ mod tree;
 
 pub use building::{accepted_are_trees, build};
 pub use fault::ExprFault;
-pub use printing::{canonical_is_read, print};
+pub use printing::{canonical_is_accepted, canonical_is_read, print};
 pub use reading::{each_text_is_read_once, read};
 pub use tree::{Bounds, Expr, Form, Part, Parts, RoundKind};
 

@@ -1,10 +1,12 @@
 //! Printing: an expression as its canonical text.
 
-ghost use Rattle.std.specs.Prelude.{◌≡◌, ◌↔◌, ◌++◌, codes, string_bytes, OnOk, IfOk};
+ghost use Rattle.std.specs.Prelude.{◌≡◌, ◌↔◌, ◌++◌, List, ℕ, codes, string_bytes, OnOk, IfOk};
 ghost use Rattle.expr_reader.specs.Trees.{Tree, tree_of, members};
 ghost use Rattle.expr_reader.specs.Canonical.{numeral, numerals, bounds_text, kind_text, canonical, members_text, in_place};
 ghost use Rattle.expr_reader.specs.Grammar.{Spells, Fits};
 ghost use Rattle.expr_reader.specs.Tokens.{tokens};
+ghost use Rattle.expr_reader.specs.Answers.{IsAccepted};
+ghost use Rattle.expr_reader.specs.ShapeOf.{shape_of};
 
 use crate::tree::{Bounds, Expr, Form, Parts, RoundKind};
 use space_core::NoMemory;
@@ -152,4 +154,10 @@ pub fn print(alloc: Global, expr: &Expr) -> Result<String, NoMemory>
 /// The canonical text of an expression spells that expression in its places, and no other.
 pub fn canonical_is_read()
     ensures { (e : Tree) → Fits e → (f : Tree) → Spells f (tokens (canonical e)) ↔ (f ≡ in_place 0 e) }
+{}
+
+/// The canonical text of an accepted expression is accepted too, as that expression in its places, and stands for the same shape.
+pub fn canonical_is_accepted()
+    ensures accepted { (text : List ℕ) → (e : Tree) → IsAccepted text e → IsAccepted (canonical e) (in_place 0 e) }
+    ensures shape { (e : Tree) → (made : ℕ) → shape_of (in_place 0 e) made ≡ shape_of e made }
 {}
