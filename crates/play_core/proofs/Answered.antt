@@ -11,7 +11,7 @@ mapped : {A B : Type 0} (f : A → B) (o : Option A) (y : B) → option_map f o 
 mapped f None y h = absurd cc
 mapped f (Some x) y h = (x, refl, cc)
 
-some_same : {A : Type 0} {x y : A} → Some x ≡ Some y → x ≡ y
+pub some_same : {A : Type 0} {x y : A} → Some x ≡ Some y → x ≡ y
 some_same h = cc
 
 told_here : (e : Shape) (s t : Run) (n m b c : ℕ) (more : List (List ℕ)) → s ≡ t → m ≡ n → c ≡ b → told_from e n b s more ≡ after [] (told_from e m c t more)

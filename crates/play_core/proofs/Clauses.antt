@@ -1,5 +1,5 @@
 -- The clauses on a run of words, from what it did.
-use Rattle.std.proofs.Common.{◌≡◌, ℕ, ◌⊎◌, inl, inr, true, List, Option, Some, None, Ok, Err, refl, sym, ap, ◌∙◌, subst}
+use Rattle.std.proofs.Common.{◌≡◌, ℕ, ◌⊎◌, inl, inr, true, List, Option, Some, None, Ok, Err, refl, sym, subst}
 use Rattle.std.specs.Prelude.{IsOk, IsErr}
 use Rattle.space_core.specs.Memory.{Memory}
 use Rattle.layer_rules.specs.After.{Opening}
@@ -7,16 +7,14 @@ use Rattle.layer_rules.specs.Shape.{Shape}
 use Rattle.source_sink.specs.Counts.{Rose}
 use Rattle.expr_reader.specs.Trees.{Tree}
 use Rattle.play_core.specs.declared.Status.{Status}
-use Rattle.play_core.specs.declared.Status.TheVariants.{Good, Usage, Expression, Trace, ReadFault, WriteFault, OpeningRefused, NoMemory}
-use Rattle.play_core.specs.Asked.{Asked, Nothing, Refused, Checks, Replays, MayAsk, IsInput, root_of, opening_of}
+use Rattle.play_core.specs.declared.Status.TheVariants.{Good, Usage, Expression, ReadFault, WriteFault, OpeningRefused, NoMemory}
+use Rattle.play_core.specs.Asked.{Asked, Nothing, Refused, Checks, Replays, MayAsk, root_of, opening_of}
 use Rattle.play_core.specs.CheckText.{check_text}
 use Rattle.play_core.specs.Command.{Command, check, replay, IsCheck, IsReplay}
 use Rattle.play_core.specs.Devices.{Reading, Writing}
-use Rattle.play_core.specs.Runs.{HasAllFree, TextPut, MaySay, Opens, Runs, IsEarly, IsStatusWhere, IsTold}
-use Rattle.play_core.specs.Telling.{Only, usage_text, expression_text, told_opening, telling, status_of}
-use Rattle.play_core.specs.Told.{Told}
+use Rattle.play_core.specs.Runs.{HasAllFree, TextPut, MaySay, Opens, Runs, IsEarly, IsStatusWhere}
 use Rattle.play_core.proofs.Asking.{asks_once}
-use Rattle.play_core.proofs.Whole.{ran_late, takes_may, says_told, opens_told, told_status, says_other, says_fault, says_status}
+use Rattle.play_core.proofs.Whole.{ran_late, says_other, says_fault, says_status}
 
 -- whatever the command asks for, this is what was done
 abbrev pub AllRun : Option Command → (r r' : Reading) (w w' : Writing) → Memory → (end : Status) → Type 0
@@ -32,10 +30,6 @@ may_status : (status : Status) (text : List ℕ) (r r' : Reading) (w w' : Writin
 may_status status text r r' w w' m end (inl h) n = absurd (n (inr h.status))
 may_status status text r r' w w' m end (inr h) n = says_status status text w w' end h.put (λ x. n (inl x))
 
-may_told : (status : Status) (text : List ℕ) (r r' : Reading) (w w' : Writing) (m : Memory) (end : Status) → MaySay status text r r' w w' m end → (end ≡ NoMemory → ⊥) → (Rose w.faults w'.faults → ⊥) → IsTold (Only status text) w w' m end
-may_told status text r r' w w' m end (inl h) nm nw = absurd (nm h.status)
-may_told status text r r' w w' m end (inr h) nm nw = says_told status text r r' w w' m end h nw
-
 may_fault : (status : Status) (text : List ℕ) (r r' : Reading) (w w' : Writing) (m : Memory) → MaySay status text r r' w w' m WriteFault → (WriteFault ≡ status → ⊥) → Rose w.faults w'.faults
 may_fault status text r r' w w' m (inl h) n = absurd (let e : WriteFault ≡ NoMemory = h.status in cc)
 may_fault status text r r' w w' m (inr h) n = says_fault status text w w' WriteFault h.put n
@@ -43,16 +37,6 @@ may_fault status text r r' w w' m (inr h) n = says_fault status text w w' WriteF
 may_free : (status : Status) (text : List ℕ) (r r' : Reading) (w w' : Writing) (m : Memory) (end : Status) → MaySay status text r r' w w' m end → HasAllFree m
 may_free status text r r' w w' m end (inl h) = h.free
 may_free status text r r' w w' m end (inr h) = h.free
-
--- ---- told
-
-pub runs_told : (asked : Asked) (r r' : Reading) (w w' : Writing) (m : Memory) (end : Status) (input : List ℕ) → Runs asked r r' w w' m end → (end ≡ NoMemory → ⊥) → (Rose r.faults r'.faults → ⊥) → (Rose w.faults w'.faults → ⊥) → IsInput asked r.left input
-    → IsTold (telling asked input) w w' m end
-runs_told Nothing r r' w w' m end input h nm nr nw i = says_told Usage usage_text r r' w w' m end h nw
-runs_told (Refused fault) r r' w w' m end input h nm nr nw i = may_told Expression (expression_text fault) r r' w w' m end h nm nw
-runs_told (Checks e) r r' w w' m end input h nm nr nw i = may_told Good (check_text e) r r' w w' m end h nm nw
-runs_told (Replays e cells) r r' w w' m end input (inl h) nm nr nw i = absurd (nm h.status)
-runs_told (Replays e cells) r r' w w' m end input (inr h) nm nr nw i = opens_told (root_of e) (opening_of e cells) r r' w w' m end input h nr nw i
 
 -- ---- Good
 
@@ -158,26 +142,6 @@ pub runs_refused : (command : Option Command) (r r' : Reading) (w w' : Writing) 
 runs_refused command r r' w w' m end all = (
   λ e. let once = asks_once command in refused_by command once.0 r r' w w' m once.1 (subst (λ (s : Status). Runs once.0 r r' w w' m s) e (all once.0 once.1)),
   λ f n. refused_from f.0 f.1 r r' w w' m end (all (Replays f.0 f.1) f.2) f.3 n,
-)
-
--- ---- Trace
-
-trace_opens : (shape : Shape) (opening : Opening) (r r' : Reading) (w w' : Writing) (m : Memory) (input : List ℕ) → Opens shape opening r r' w w' m Trace → r.left ≡ Some input → status_of (told_opening shape opening input) ≡ Trace
-trace_opens shape (Err node) r r' w w' m input h e = absurd (says_other _ _ w w' Trace h.put (λ e. cc) (λ e. cc))
-trace_opens shape (Ok o) r r' w w' m input h e = ap (λ (t : Told). t.status) (h.2.4 input (takes_may r'.finished r.left r'.left h.2.0 input h.2.2.taken h.2.2.at_end e))
-
-trace_by : (asked : Asked) (r r' : Reading) (w w' : Writing) (m : Memory) (input : List ℕ) → Runs asked r r' w w' m Trace → IsInput asked r.left input → status_of (telling asked input) ≡ Trace
-trace_by Nothing r r' w w' m input h i = absurd (says_other _ _ w w' Trace h.put (λ e. cc) (λ e. cc))
-trace_by (Refused fault) r r' w w' m input h i = absurd (may_other _ _ r r' w w' m Trace h (λ e. cc) (λ e. cc) (λ e. cc))
-trace_by (Checks e) r r' w w' m input h i = absurd (may_other _ _ r r' w w' m Trace h (λ e. cc) (λ e. cc) (λ e. cc))
-trace_by (Replays e cells) r r' w w' m input (inl h) i = absurd (let x : Trace ≡ NoMemory = h.status in cc)
-trace_by (Replays e cells) r r' w w' m input (inr h) i = trace_opens (root_of e) (opening_of e cells) r r' w w' m input h i
-
-pub runs_trace : (asked : Asked) (r r' : Reading) (w w' : Writing) (m : Memory) (end : Status) (input : List ℕ) → Runs asked r r' w w' m end → IsInput asked r.left input
-    → IsStatusWhere end Trace (status_of (telling asked input) ≡ Trace) (Rose r.faults r'.faults ⊎ (Rose w.faults w'.faults ⊎ (end ≡ NoMemory)))
-runs_trace asked r r' w w' m end input h i = (
-  λ e. trace_by asked r r' w w' m input (subst (λ (s : Status). Runs asked r r' w w' m s) e h) i,
-  λ e n. told_status (telling asked input) w w' m end (runs_told asked r r' w w' m end input h (λ x. n (inr (inr x))) (λ x. n (inl x)) (λ x. n (inr (inl x))) i) ∙ e,
 )
 
 -- ---- ReadFault

@@ -22,7 +22,7 @@ use Rattle.play_core.specs.Place.{Place, Leads, told_at, fed, fed_place}
 use Rattle.play_core.specs.Ends.{Quiet, ByteStepped, AnswerPut, StopPut, Fed}
 use Rattle.play_core.proofs.PutLemmas.{puts_more, fails_more, puts_none_at}
 use Rattle.play_core.proofs.LineFacts.{lines_joined, joined-append, whole_append, open_more, lines_begin, lines_whole}
-use Rattle.play_core.proofs.Answered.{told_answers, answers_append}
+use Rattle.play_core.proofs.Answered.{told_answers, answers_append, some_same}
 use Rattle.play_core.proofs.Outcomes.{out_whole, out_long, out_much}
 
 -- what is told of all is the pieces so far and what is told of the rest
@@ -90,17 +90,14 @@ Tests e p b t u v = cond t (Some (Stops TooMuchInput)) (cond u (Some (read_outco
 abbrev Next : Place → (b : ℕ) → (u : Bool) → (next : Run) → Place
 Next p b u next = cond u (record { number = p.number + 1; before = p.before + length p.begun + 1; begun = []; run = next }) (record { number = p.number; before = p.before; begun = p.begun ++ b ∷ []; run = next })
 
-some_is : {A : Type 0} {x y : A} → Some x ≡ Some y → x ≡ y
-some_is h = cc
-
 -- an answer comes only with a newline
 answers_by : (e : Shape) (p : Place) (b : ℕ) (call : Call) (answer : Answer) (next : Run) (t u v : Bool) → nat_lt 16777216 (p.before + length p.begun + 1) ≡ t → nat_eq b 10 ≡ u → IsOpen p.begun → length p.begun ≤ 256
     → Tests e p b t u v ≡ Some (Answers call answer next) → Leads e p (b ∷ []) (answer_piece call answer next ∷ []) (Next p b u next)
-answers_by e p b call answer next true u v d i opened short h = absurd (let x : Stops TooMuchInput ≡ Answers call answer next = some_is h in cc)
+answers_by e p b call answer next true u v d i opened short h = absurd (let x : Stops TooMuchInput ≡ Answers call answer next = some_same h in cc)
 answers_by e p b call answer next false true v d i opened short h =
     let n : 10 ≡ b = grind (arith, nat_tests, i) in
-    subst (λ c. Leads e p (c ∷ []) (answer_piece call answer next ∷ []) (Next p b true next)) n (leads_line e p call answer next opened short (grind (arith, nat_tests, d)) (some_is h))
-answers_by e p b call answer next false false true d i opened short h = absurd (let x : Stops (LineIn NotBuiltYet) ≡ Answers call answer next = some_is h in cc)
+    subst (λ c. Leads e p (c ∷ []) (answer_piece call answer next ∷ []) (Next p b true next)) n (leads_line e p call answer next opened short (grind (arith, nat_tests, d)) (some_same h))
+answers_by e p b call answer next false false true d i opened short h = absurd (let x : Stops (LineIn NotBuiltYet) ≡ Answers call answer next = some_same h in cc)
 answers_by e p b call answer next false false false d i opened short h = absurd cc
 
 fed_answers : (e : Shape) (p : Place) (b : ℕ) (call : Call) (answer : Answer) (next : Run) → IsOpen p.begun → length p.begun ≤ 256 → fed e p b ≡ Some (Answers call answer next) → Leads e p (b ∷ []) (answer_piece call answer next ∷ []) (fed_place p b next)
@@ -127,13 +124,13 @@ stops_by : (e : Shape) (p : Place) (b : ℕ) (rest : List ℕ) (fault : TraceFau
     → (line : List ℕ) × (others : List (List ℕ)) × (lines_of (p.begun ++ b ∷ rest) ≡ line ∷ others) × (outcome e p.before p.run line ≡ Stops fault)
 stops_by e p b rest fault true u v d i f opened short h =
     let l = lines_begin p.begun b rest opened in
-    (p.begun ++ b ∷ l.more, l.others, l.is, out_much e p.before p.run p.begun b l.more short (grind (arith, nat_tests, d)) ∙ some_is h)
+    (p.begun ++ b ∷ l.more, l.others, l.is, out_much e p.before p.run p.begun b l.more short (grind (arith, nat_tests, d)) ∙ some_same h)
 stops_by e p b rest fault false true v d i f opened short h =
     let n : 10 ≡ b = grind (arith, nat_tests, i) in
-    (p.begun ++ 10 ∷ [], lines_of rest, ap (λ c. lines_of (p.begun ++ c ∷ rest)) (sym n) ∙ lines_whole p.begun rest opened, out_whole e p.before p.run p.begun opened short (grind (arith, nat_tests, d)) ∙ some_is h)
+    (p.begun ++ 10 ∷ [], lines_of rest, ap (λ c. lines_of (p.begun ++ c ∷ rest)) (sym n) ∙ lines_whole p.begun rest opened, out_whole e p.before p.run p.begun opened short (grind (arith, nat_tests, d)) ∙ some_same h)
 stops_by e p b rest fault false false true d i f opened short h =
     let l = lines_begin p.begun b rest opened in
-    (p.begun ++ b ∷ l.more, l.others, l.is, out_long e p.before p.run p.begun b l.more opened i (grind (arith, nat_tests, f)) (grind (arith, nat_tests, d, f)) ∙ some_is h)
+    (p.begun ++ b ∷ l.more, l.others, l.is, out_long e p.before p.run p.begun b l.more opened i (grind (arith, nat_tests, f)) (grind (arith, nat_tests, d, f)) ∙ some_same h)
 stops_by e p b rest fault false false false d i f opened short h = absurd cc
 
 fed_stops : (e : Shape) (p : Place) (b : ℕ) (rest : List ℕ) (fault : TraceFault) → IsOpen p.begun → length p.begun ≤ 256 → fed e p b ≡ Some (Stops fault) → told_at e p (b ∷ rest) ≡ stopped p.number fault p.run

@@ -3,7 +3,6 @@ pub mod PutLemmas
 pub mod LineFacts
 pub mod Outcomes
 pub mod Answered
-pub mod Calling
 pub mod Going
 pub mod FactCounts
 pub mod WorldTotals

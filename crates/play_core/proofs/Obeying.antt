@@ -1,19 +1,17 @@
 -- What was done is what the words ask for, whatever their expression is read as.
-use Rattle.std.proofs.Common.{◌≡◌, ℕ, inl, inr, List, Option, Some, None, refl, sym, subst}
+use Rattle.std.proofs.Common.{◌≡◌, ℕ, inr, List, Option, Some, None, refl, sym, subst}
 use Rattle.space_core.specs.Memory.{Memory}
 use Rattle.expr_reader.specs.declared.fault.ExprFault.{ExprFault}
-use Rattle.expr_reader.specs.declared.fault.ExprFault.TheVariants as flaws
-use Rattle.expr_reader.specs.Answers.{IsAccepted, HasFault, FailsWith}
+use Rattle.expr_reader.specs.Answers.{IsAccepted, HasFault}
 use Rattle.expr_reader.specs.Trees.{Tree}
-use Rattle.std.specs.Prelude.{Err}
 use Rattle.play_core.specs.declared.Status.{Status}
-use Rattle.play_core.specs.declared.Status.TheVariants.{Good, Usage, Expression}
+use Rattle.play_core.specs.declared.Status.TheVariants.{Good, Usage}
 use Rattle.play_core.specs.Asked.{Asked, Nothing, Refused, Checks, Replays, MayAsk, CommandAsks}
 use Rattle.play_core.specs.CheckText.{check_text}
-use Rattle.play_core.specs.Command.{Command, check, replay, expression_in}
+use Rattle.play_core.specs.Command.{Command, check, replay}
 use Rattle.play_core.specs.Devices.{Reading, Writing}
-use Rattle.play_core.specs.Runs.{HasAllFree, TextPut, SaysOnly, GivesUp, MaySay, Runs}
-use Rattle.play_core.specs.Telling.{usage_text, expression_text}
+use Rattle.play_core.specs.Runs.{HasAllFree, TextPut, MaySay, Runs}
+use Rattle.play_core.specs.Telling.{usage_text}
 
 -- no command
 pub does_usage : (command : Option Command) (text : List ℕ) (r : Reading) (w w' : Writing) (m : Memory) (end : Status) → None ≡ command → text ≡ usage_text → TextPut Usage text w w' end → HasAllFree m
@@ -21,38 +19,6 @@ pub does_usage : (command : Option Command) (text : List ℕ) (r : Reading) (w w
 does_usage command text r w w' m end none same put free asked a =
     let is : asked ≡ Nothing = subst (λ (c : Option Command). MayAsk c asked) (sym none) a in
     subst (λ (x : Asked). Runs x r r w w' m end) (sym is) (record { put = subst (λ (t : List ℕ). TextPut Usage t w w' end) same put; unread = refl; free = free })
-
--- a command, and no memory
-gives_up_at : (command : Command) (r r' : Reading) (w w' : Writing) (m : Memory) (end : Status) → GivesUp r r' w w' m end → (asked : Asked) → CommandAsks command asked → Runs asked r r' w w' m end
-gives_up_at command r r' w w' m end h Nothing a = absurd a
-gives_up_at command r r' w w' m end h (Refused fault) a = inl h
-gives_up_at command r r' w w' m end h (Checks e) a = inl h
-gives_up_at command r r' w w' m end h (Replays e cells) a = inl h
-
-pub does_nothing : (asks : Option Command) (command : Command) (r r' : Reading) (w w' : Writing) (m : Memory) (end : Status) → Some command ≡ asks → GivesUp r r' w w' m end
-    → (asked : Asked) → MayAsk asks asked → Runs asked r r' w w' m end
-does_nothing asks command r r' w w' m end is h asked a = gives_up_at command r r' w w' m end h asked (subst (λ (c : Option Command). MayAsk c asked) (sym is) a)
-
--- a command whose expression is in fault
-refuses_at : (command : Command) (fault : ExprFault) (r r' : Reading) (w w' : Writing) (m : Memory) (end : Status) → (fault ≡ flaws.NoMemory → ⊥)
-    → ((f : ExprFault) → HasFault (expression_in command) f → FailsWith f (Err fault)) → ((e : Tree) → IsAccepted (expression_in command) e → fault ≡ flaws.NoMemory)
-    → SaysOnly Expression (expression_text fault) r r' w w' m end → (asked : Asked) → CommandAsks command asked → Runs asked r r' w w' m end
-refuses_at command fault r r' w w' m end some told complete says Nothing a = absurd a
-refuses_at command fault r r' w w' m end some told complete says (Refused f) a = elim (told f a) [
-  | inl same ↦ subst (λ (x : ExprFault). MaySay Expression (expression_text x) r r' w w' m end) same (inr says)
-  | inr lacks ↦ absurd (some lacks)
-]
-refuses_at (check text) fault r r' w w' m end some told complete says (Checks e) a = absurd (some (complete e a))
-refuses_at (check text) fault r r' w w' m end some told complete says (Replays e n) a = absurd a
-refuses_at (replay text cells) fault r r' w w' m end some told complete says (Checks e) a = absurd a
-refuses_at (replay text cells) fault r r' w w' m end some told complete says (Replays e n) a = absurd (some (complete e a.0))
-
-pub does_refuse : (asks : Option Command) (command : Command) (text : List ℕ) (fault : ExprFault) (r : Reading) (w w' : Writing) (m : Memory) (end : Status) → Some command ≡ asks → text ≡ expression_in command
-    → (fault ≡ flaws.NoMemory → ⊥) → ((f : ExprFault) → HasFault text f → FailsWith f (Err fault)) → ((e : Tree) → IsAccepted text e → fault ≡ flaws.NoMemory)
-    → TextPut Expression (expression_text fault) w w' end → HasAllFree m → (asked : Asked) → MayAsk asks asked → Runs asked r r w w' m end
-does_refuse asks command text fault r w w' m end is of some told complete put free asked a =
-    refuses_at command fault r r w w' m end some (λ f h. told f (subst (λ (t : List ℕ). HasFault t f) (sym of) h)) (λ e h. complete e (subst (λ (t : List ℕ). IsAccepted t e) (sym of) h))
-    (record { put = put; unread = refl; free = free }) asked (subst (λ (c : Option Command). MayAsk c asked) (sym is) a)
 
 -- what stands in an expression is told
 checks_at : (text : List ℕ) (found : Tree) (r r' : Reading) (w w' : Writing) (m : Memory) (end : Status) → ((f : ExprFault) → HasFault text f → ⊥) → ((e : Tree) → IsAccepted text e → found ≡ e)

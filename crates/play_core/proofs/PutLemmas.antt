@@ -1,10 +1,9 @@
 -- What several puts leave together.
-use Rattle.std.proofs.Common.{◌≡◌, ℕ, ◌+◌, ◌≤◌, ◌<◌, List, [], ◌++◌, length, take, drop, Option, Some, None, refl, sym, append_assoc, append-nil, arith, subst}
+use Rattle.std.proofs.Common.{◌≡◌, ℕ, ◌+◌, ◌≤◌, List, [], ◌++◌, length, take, drop, Option, Some, None, refl, sym, append_assoc, append-nil, arith, subst}
 use Rattle.std.proofs.lemmas.List.{take-append-drop, length-take-le}
 use Rattle.std.proofs.Math.Seq.{take-append-add}
 use Rattle.source_sink.specs.Sinks.{Appends}
-use Rattle.source_sink.specs.Counts.{Rose}
-use Rattle.play_core.specs.Devices.{Writing, PutsAll, Fails, PutsPart}
+use Rattle.play_core.specs.Devices.{Writing, PutsAll, Fails}
 
 pub take-add : (i k : ℕ) (xs : List ℕ) → i ≤ length xs → take (i + k) xs ≡ take i xs ++ take k (drop i xs)
 take-add i k xs h =
@@ -34,18 +33,6 @@ fails_more a b c x y h k = record {
 -- one more part of a text
 pub puts_part : (a b c : Writing) (text rest : List ℕ) (i k : ℕ) → rest ≡ drop i text → i ≤ length text → PutsAll a b (take i text) → PutsAll b c (take k rest) → PutsAll a c (take (i + k) text)
 puts_part a b c text rest i k e h p q = rw (take-add i k text h, ← e) (puts_more a b c _ _ p q)
-
--- the sink failed within the rest
-pub fails_part : (a b c : Writing) (text : List ℕ) (i : ℕ) → i < length text → PutsAll a b (take i text) → c.holds ≡ b.holds → b.faults ≤ c.faults → Rose b.faults c.faults → PutsPart a c text
-fails_part a b c text i h p e later rose = (
-  i,
-  h,
-  record {
-    appended = subst (λ holds. Appends a.holds holds (take i text)) (sym e) p.appended;
-    later = omega (arith, p.counted, later);
-    rose = omega (arith, p.counted, rose);
-  },
-)
 
 appends_none : (a : Option (List ℕ)) → Appends a a []
 appends_none None = tt

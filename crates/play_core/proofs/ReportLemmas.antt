@@ -13,8 +13,9 @@ use Rattle.heap_core.specs.Holding.{run_in, world_of}
 use Rattle.heap_core.specs.Names.{asked_by}
 use Rattle.heap_core.specs.Performing.{Run}
 use Rattle.source_sink.specs.declared.Failed.{Failed}
+use Rattle.play_core.proofs.Answered.{some_same}
 use Rattle.play_core.specs.declared.Status.TheVariants.{Good, WriteFault}
-use Rattle.play_core.specs.Devices.{Writing, PutsAll, PutsPart, Fails}
+use Rattle.play_core.specs.Devices.{Writing, PutsAll, Fails}
 use Rattle.play_core.specs.Lines.{joined}
 use Rattle.play_core.specs.ReportText.{and_lines, asked_in, extent_in, fact_line, node_lines, report_of, total_line, total_lines}
 use Rattle.play_core.specs.Told.{line_piece, reported, text_of}
@@ -59,9 +60,6 @@ so_far_all a b all rest e h = puts_along a b _ _ (ap joined (sym (append-nil h.f
 pub line_put : (a b : Writing) (line : List ℕ) → PutsAll a b line → PutsAll a b (joined (line ∷ []))
 line_put a b line h = puts_along a b _ _ (sym (append-nil line)) h
 
-pub line_fails : (a b : Writing) (line : List ℕ) → PutsPart a b line → PutsLines a b (line ∷ [])
-line_fails a b line h = record { front = []; line = line; back = []; count = h.0; lines_are = refl; within = h.1; fails = h.2 }
-
 lines_next : {X : Type 0} (f : X → List ℕ) (xs : List X) (i : ℕ) (x : X) → i < length xs → x ≡ get_or xs i x → map f (drop i xs) ≡ (f x ∷ []) ++ map f (drop (i + 1) xs)
 lines_next f xs i x lt is =
     let e : drop i xs ≡ x ∷ drop (i + 1) xs = drop-cons xs i x lt ∙ ap (λ n. get_or xs i x ∷ drop n xs) (sym (add-one i)) ∙ ap (λ y. y ∷ drop (i + 1) xs) (sym is) in
@@ -81,12 +79,9 @@ pub and_append : (o : Option (List ℕ)) (lines : List (List ℕ)) → and_lines
 and_append None lines = refl
 and_append (Some line) lines = refl
 
-some_is : {A : Type 0} {x y : A} → Some x ≡ Some y → x ≡ y
-some_is h = cc
-
 pub nodes_next : (facts : List Fact) (node k : ℕ) (fact : Fact) → slice_get facts k ≡ Some fact → node_lines node (drop k facts) ≡ and_lines (fact_line node fact) [] ++ node_lines (node + 1) (drop (k + 1) facts)
 nodes_next [] node k fact h = absurd cc
-nodes_next (f ∷ fs) node zero fact h = ap (λ g. and_lines (fact_line node g) (node_lines (node + 1) fs)) (some_is h) ∙ and_append (fact_line node fact) (node_lines (node + 1) fs)
+nodes_next (f ∷ fs) node zero fact h = ap (λ g. and_lines (fact_line node g) (node_lines (node + 1) fs)) (some_same h) ∙ and_append (fact_line node fact) (node_lines (node + 1) fs)
 nodes_next (f ∷ fs) node (suc k) fact h =
     let e : suc (k + 1) ≡ suc k + 1 = omega arith in
     nodes_next fs node k fact h ∙ ap (λ n. and_lines (fact_line node fact) [] ++ node_lines (node + 1) (drop n (f ∷ fs))) e
@@ -113,15 +108,6 @@ nodes_end facts k a b le h = so_far_all a b (node_lines 0 facts) (node_lines k (
 pub lines_turn : {X : Type 0} (f : X → List ℕ) (xs : List X) (i : ℕ) (x : X) (a b c : Writing) → i < length xs → x ≡ get_or xs i x → PutSoFar a b (map f xs) (map f (drop i xs)) → PutsAll b c (f x) → PutSoFar a c (map f xs) (map f (drop (i + 1) xs))
 lines_turn f xs i x a b c lt is h put =
     so_far_more a b c (map f xs) (f x ∷ []) (map f (drop (i + 1) xs)) (subst (λ ys. PutSoFar a b (map f xs) ys) (lines_next f xs i x lt is) h) (line_put b c (f x) put)
-
--- the sink failed at a line
-pub lines_break : {X : Type 0} (f : X → List ℕ) (xs : List X) (i : ℕ) (x : X) (a b c : Writing) → i < length xs → x ≡ get_or xs i x → PutSoFar a b (map f xs) (map f (drop i xs)) → PutsPart b c (f x) → PutsLines a c (map f xs)
-lines_break f xs i x a b c lt is h put =
-    so_far_fails a b c (map f xs) (f x ∷ []) (map f (drop (i + 1) xs)) (subst (λ ys. PutSoFar a b (map f xs) ys) (lines_next f xs i x lt is) h) (line_fails b c (f x) put)
-
--- all lines
-pub lines_end : {X : Type 0} (f : X → List ℕ) (xs : List X) (i : ℕ) (a b : Writing) → length xs ≤ i → PutSoFar a b (map f xs) (map f (drop i xs)) → PutsAll a b (joined (map f xs))
-lines_end f xs i a b le h = so_far_all a b (map f xs) (map f (drop i xs)) (ap (map f) (drop_of_length-le xs le)) h
 
 -- ---- the pieces of lines
 

@@ -5,7 +5,6 @@ use Rattle.std.proofs.lemmas.List.Concat.{flat_map-append}
 use Rattle.layer_rules.specs.Shape.{Shape}
 use Rattle.heap_core.specs.Performing.{Run}
 use Rattle.source_sink.specs.Sources.{Takes, IsAtEnd}
-use Rattle.source_sink.specs.Counts.{Rose}
 use Rattle.trace_text.specs.Grammar.{line_call}
 use Rattle.trace_text.specs.Text.{answer_text, fault_text}
 use Rattle.play_core.specs.declared.Status.{Status}
@@ -59,9 +58,6 @@ pub last_some : (e : Shape) (p : Place) (t : Run) (old new : Writing) (end : Ste
 last_some e p t old new end xs i opened some short within h =
     last_by e (read_outcome e p.run (line_call p.begun)) (told_at e p []) p.number p.run t old new end (last_told e p p.begun refl opened some short within)
     (subst (λ ys. Stepped (read_outcome e p.run (line_call ys)) p.number p.run t old new end) i h)
-
-pub last_none : (e : Shape) (p : Place) (now : Writing) → p.begun ≡ [] → Lasts e (told_at e p []) p.run now now step.Goes
-last_none e p now i = ([], puts_none now, ap (λ ys. told_from e p.number p.before p.run (lines_of (ys ++ []))) i)
 
 -- the report after the last line, on a heap whose shape stays
 pub last_finish : (e f : Shape) (all : Told) (t : Run) (old mid new : Writing) (end : Status) → f ≡ e → Lasts e all t old mid step.Goes → Finishes (reported f t) t mid new end → Finishes all t old new end
@@ -123,16 +119,6 @@ going_more e s r r' r'' w w' w'' p q b h t c i f = record {
   opened = i;
   fed = fed_then e (start_of s) p q h.bytes b w w' w'' step.Goes h.fed f;
 }
-
--- the source failed
-pub going_fails : (e : Shape) (s : Run) (r r' r'' : Reading) (w w' : Writing) (q : Place) → Going e s r r' w w' q → r''.left ≡ r'.left → r''.finished ≡ true → r'.faults ≤ r''.faults → Rose r'.faults r''.faults → Ran e s q.run r r'' w w' ReadFault
-going_fails e s r r' r'' w w' q h i f later rose = (
-  h.bytes,
-  h.fed.0,
-  record { taken = subst (λ l. Takes r.left l h.bytes) (sym i) h.taken; finished = f; later = omega (arith, h.counted, later); rose = omega (arith, h.counted, rose) },
-  h.fed.1,
-  record { lines = h.fed.2.lines; rest = q.begun; cut = h.fed.2.cut; answers = h.fed.2.answers; short = h.fed.2.short },
-)
 
 begun_by : (b : Bool) (bytes input : List ℕ) → b ≡ false → MayBe b bytes input → (rest : List ℕ) × (input ≡ bytes ++ rest)
 begun_by true bytes input i h = absurd cc

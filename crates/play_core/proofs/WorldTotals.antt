@@ -1,5 +1,6 @@
 -- The totals of a heap, by its table and by its world.
-use Rattle.std.proofs.Common.{◌≡◌, ℕ, ◌+◌, ◌≤◌, List, [], ◌∷◌, length, refl, ap, ◌∙◌, arith, suc, fold, map, sum_by}
+use Rattle.std.proofs.Common.{◌≡◌, ℕ, ◌+◌, ◌≤◌, List, [], ◌∷◌, length, refl, ap, ◌∙◌, arith, fold, map, sum_by}
+use Rattle.std.proofs.lemmas.List.{length-map}
 use Rattle.size_round.specs.Sizes.{limit}
 use Rattle.space_core.specs.Memory.{Memory}
 use Rattle.layer_rules.specs.Rows.{Each}
@@ -25,10 +26,6 @@ sum_same : {X : Type 0} (f g : X → ℕ) → ((x : X) → f x ≡ g x) → (n :
 sum_same f g h n [] = refl
 sum_same f g h n (x ∷ xs) = ap (λ k. fold (λ a x. a + f x) (n + k) xs) (h x) ∙ sum_same f g h (n + g x) xs
 
-map_length : {X Y : Type 0} (g : X → Y) (xs : List X) → length (map g xs) ≡ length xs
-map_length g [] = refl
-map_length g (x ∷ xs) = ap suc (map_length g xs)
-
 pub asked_total : (t : Tree) (table : List Named) (m : Memory) → asked_in (run_in t table m) ≡ asked_by table
 asked_total t table m = sum_map (λ (x : Live). x.block.len) (λ x. live x.name x.block (bytes_of x.block m.bytes)) 0 table
 
@@ -41,7 +38,7 @@ extent_total t table m =
     ∙ sum_same (λ (x : Named). (extent t.shape x.block (state_of t m)).len) (extent_len t) (same_extent t m) 0 table
 
 pub live_total : (table : List Named) (m : Memory) → length (world_of table m.bytes) ≡ length table
-live_total table m = map_length (λ (x : Named). live x.name x.block (bytes_of x.block m.bytes)) table
+live_total table m = length-map table (λ (x : Named). live x.name x.block (bytes_of x.block m.bytes))
 
 -- each block of a heap can be measured
 routed_each : (t : Tree) (m : Memory) (table : List Named) → IsLayer t → Stands t m → Each (λ (x : Named). IsOutOf t m x.block) table → Each (λ (x : Named). IsRoutedIn t x.block) table

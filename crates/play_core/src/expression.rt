@@ -8,12 +8,11 @@ ghost use Rattle.play_core.specs.CheckText.{check_text, offered, offers_text, sh
 ghost use Rattle.play_core.specs.Runs.{HasAllFree};
 ghost use Rattle.play_core.specs.Telling.{expression_text, fault_line};
 
-use crate::report::push_number;
 use expr_reader::{Expr, ExprFault, build, print};
 use layer_core::{Layer, Offers};
 use space_core::{NoMemory, Space};
 use std::alloc::{AllocError, Global};
-use trace_text::Line;
+use trace_text::{Line, push_number};
 
 // The line that tells what is wrong with an expression, and where.
 fn fault_line(cause: &str, at: u64) -> Line

@@ -13,14 +13,13 @@ ghost use Rattle.play_core.specs.Telling.{refused_text};
 use crate::Status;
 use crate::putting::put_only;
 use crate::replaying::replay;
-use crate::report::push_number;
 use expr_reader::{Expr, build};
 use heap_core::{Heap, MakeFault};
 use layer_core::Layer;
 use source_sink::{Sink, Source};
 use space_core::Space;
 use std::alloc::Global;
-use trace_text::Line;
+use trace_text::{Line, push_number};
 
 // The line that tells which node refused to be opened.
 #[tactic(auto, unfolding(crate::specs::Telling::refused_text))]

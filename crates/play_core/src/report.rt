@@ -1,8 +1,6 @@
 // The report at the end of a trace: the totals, and then what each node says.
-ghost use Rattle.std.specs.Prelude.{◌≡◌, ◌≤◌, ◌+◌, ◌++◌, ◌∷◌, [], length};
+ghost use Rattle.std.specs.Prelude.{◌≡◌, ◌≤◌, [], length};
 ghost use Rattle.std.specs.Option.{option_map};
-ghost use Rattle.arrayvec.specs.ArrayString.{array_string_len};
-ghost use Rattle.std.specs.Fmt.{decimal};
 ghost use Rattle.layer_rules.specs.Facts.{facts};
 ghost use Rattle.layer_rules.specs.Layering.{Stands, state_of};
 ghost use Rattle.play_core.specs.Devices.{writing};
@@ -11,21 +9,10 @@ ghost use Rattle.play_core.specs.ReportText.{and_lines, cells_line, fact_line, n
 
 use crate::putting::{put_all, put_lines};
 use heap_core::Heap;
-use itoa::Buffer;
 use layer_core::{Fact, Layer};
 use source_sink::{Failed, Sink};
 use space_core::Space;
-use trace_text::Line;
-
-// Appends a number in digits.
-pub(crate) fn push_number(line: &mut Line, number: u64)
-    requires { array_string_len line.old + 20 ≤ 512 }
-    ensures bytes { line.new.bytes ≡ line.old.bytes ++ decimal number }
-    ensures len { array_string_len line.new ≤ array_string_len line.old + 20 }
-{
-    let mut buffer = Buffer::new();
-    line.push_str(buffer.format(number));
-}
+use trace_text::{Line, push_number};
 
 // A word and a number.
 fn total_line(word: &str, number: u64) -> Line
