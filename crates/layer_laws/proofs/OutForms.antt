@@ -1,5 +1,5 @@
 -- What `is_out` says, form by form.
-use Rattle.std.proofs.Common.{◌≡◌, refl, ℕ, ◌≤◌, ◌+◌, ◌-◌, zero, suc, Bool, true, false, ◌&&◌, nat_eq, nat_le, arith, List, [], ◌∷◌, get_or, drop, map}
+use Rattle.std.proofs.Common.{◌≡◌, refl, sym, ◌∙◌, subst, ℕ, ◌≤◌, ◌+◌, ◌-◌, zero, suc, Bool, true, false, ◌&&◌, nat_eq, nat_le, arith, List, [], ◌∷◌, get_or, drop, map, Option, Some, None, is_some, unwrap_or}
 use Rattle.std.specs.List.{list_all}
 use Rattle.std.proofs.lemmas.Bool.Decides.{nat_tests}
 use Rattle.std.proofs.lemmas.Bool.{and_from}
@@ -10,13 +10,14 @@ use Rattle.layer_rules.specs.Rows.{Each}
 use Rattle.size_round.specs.Sizes.{RoundingKind}
 use Rattle.space_core.specs.Cells.{Cells, cells_with, cell_at, cells_touched}
 use Rattle.layer_rules.specs.LeafCells.{has_cells}
-use Rattle.layer_rules.specs.Offering.{member_for}
-use Rattle.layer_rules.specs.Down.{cache_down, quantize_down}
-use Rattle.layer_rules.specs.Ownership.{extent}
-use Rattle.layer_rules.specs.Shape.{Shape, mem, region, freelist, quantize, stats, affix, segregate, Shapes, nth_member}
+use Rattle.layer_rules.specs.Offering.{member_for, bucket_for}
+use Rattle.layer_rules.specs.Down.{bucket_down, cache_down, quantize_down}
+use Rattle.layer_rules.specs.Ownership.{extent, holder}
+use Rattle.layer_rules.specs.Shape.{Shape, mem, region, bitmap, kr, freelist, quantize, stats, affix, segregate, buckets, list, Shapes, nth_member}
 use Rattle.layer_rules.specs.State.{State, is_open, child, cached_of}
-use Rattle.layer_rules.specs.Occupancy.{is_out}
-use Rattle.layer_rules.specs.OutForms.{IsOutCells, IsOutRegion, IsOutBelow, IsOutAffix, IsOutCache, Apart}
+use Rattle.layer_rules.specs.Occupancy.{is_out, is_out_in}
+use Rattle.layer_rules.specs.OutForms.{IsOutCells, IsOutRegion, IsOutBitmap, IsOutKr, IsOutBelow, IsOutAffix, IsOutCache, IsOutBucket, IsOutMember, Apart}
+use Rattle.layer_laws.specs.OutMeanings.{OutOfNull, OutOfLeaf, OutOfRegion, OutOfBitmap, OutOfKr, OutOfFreelist, OutOfQuantize, OutOfStats, OutOfAffix, OutOfSegregate, OutOfBuckets, OutOfFallback, OutOfList}
 use Rattle.layer_laws.proofs.MembersLemmas.{is_out_in-nth_member}
 use Rattle.layer_laws.proofs.Basics.{and-fst, and-snd}
 use Rattle.layer_laws.proofs.Runs.{starts_taken-at, starts_taken-from}
@@ -61,6 +62,22 @@ out-region size align e b s cells o = record { is_set = grind (arith, nat_tests)
 pub region-out : (size align : ℕ) (e : Shape) (b : Block) (s : State) (cells : Cells) → IsOutRegion align b s → is_out (region size align e) b s cells ≡ true
 unfolding is_out
 region-out size align e b s cells o = grind (arith, nat_tests, o.is_set, o.some, o.from, o.aligned, o.upto)
+
+out-bitmap : (unit count : ℕ) (e : Shape) (b : Block) (s : State) (cells : Cells) → is_out (bitmap unit count e) b s cells ≡ true → IsOutBitmap unit b s
+unfolding is_out
+out-bitmap unit count e b s cells o = record { is_set = grind (arith, nat_tests); some = grind (arith, nat_tests); aligned = grind (arith, nat_tests); inside = grind (arith, nat_tests); taken = grind (arith, nat_tests) }
+
+bitmap-out : (unit count : ℕ) (e : Shape) (b : Block) (s : State) (cells : Cells) → IsOutBitmap unit b s → is_out (bitmap unit count e) b s cells ≡ true
+unfolding is_out
+bitmap-out unit count e b s cells o = grind (arith, nat_tests, o.is_set, o.some, o.aligned, o.inside, o.taken)
+
+out-kr : (size : ℕ) (e : Shape) (b : Block) (s : State) (cells : Cells) → is_out (kr size e) b s cells ≡ true → IsOutKr b s
+unfolding is_out
+out-kr size e b s cells o = record { is_set = grind (arith, nat_tests); some = grind (arith, nat_tests); from = grind (arith, nat_tests); aligned = grind (arith, nat_tests); taken = grind (arith, nat_tests) }
+
+kr-out : (size : ℕ) (e : Shape) (b : Block) (s : State) (cells : Cells) → IsOutKr b s → is_out (kr size e) b s cells ≡ true
+unfolding is_out
+kr-out size e b s cells o = grind (arith, nat_tests, o.is_set, o.some, o.from, o.aligned, o.taken)
 
 pub below-parts : (b : Block) (s : State) (x : Bool) → ((is_open s && nat_le 1 b.len) && x) ≡ true → IsOutBelow b s x
 below-parts b s x h = record { is_set = grind (arith, nat_tests); some = grind (arith, nat_tests); below = and-snd _ _ h }
@@ -130,3 +147,85 @@ pub freelist-out : (least greatest : ℕ) (e : Shape) (b : Block) (s : State) (c
 unfolding is_out
 freelist-out least greatest e b s cells o =
     below-whole b s _ (record { is_set = o.is_set; some = o.some; below = and_from _ _ o.below (apart-all e (child s 0) greatest (cache_down least greatest b) (cached_of s) o.apart) })
+
+out-buckets : (least greatest step : ℕ) (es : Shapes) (b : Block) (s : State) (cells : Cells) → is_out (buckets least greatest step es) b s cells ≡ true → IsOutBucket least greatest step es b s cells
+unfolding is_out
+out-buckets least greatest step es b s cells o =
+    let i = bucket_for least step b.len in
+    let p = below-parts b s _ o in
+    let q : is_out_in es i (bucket_down least greatest step b) (child s i) cells ≡ true = and-snd _ _ p.below in
+    record { is_set = p.is_set; some = p.some; ranged = and-fst _ _ p.below; below = sym (is_out_in-nth_member es i (bucket_down least greatest step b) (child s i) cells) ∙ q }
+
+buckets-out : (least greatest step : ℕ) (es : Shapes) (b : Block) (s : State) (cells : Cells) → IsOutBucket least greatest step es b s cells → is_out (buckets least greatest step es) b s cells ≡ true
+unfolding is_out
+buckets-out least greatest step es b s cells o =
+    let i = bucket_for least step b.len in
+    below-whole b s _ (record { is_set = o.is_set; some = o.some; below = and_from _ _ o.ranged (is_out_in-nth_member es i (bucket_down least greatest step b) (child s i) cells ∙ o.below) })
+
+-- the member that a list has for a block, by who holds it
+abbrev HasMember : Shapes → Block → State → Cells → Option ℕ → Type 0
+HasMember es b s cells o = (number : ℕ) × (o ≡ Some number) × (is_out (nth_member es number) b (child s number) cells ≡ true)
+
+has-member : (es : Shapes) (b : Block) (s : State) (cells : Cells) (o : Option ℕ) → (is_some o && is_out_in es (unwrap_or o 0) b (child s (unwrap_or o 0)) cells) ≡ true → HasMember es b s cells o
+has-member es b s cells None h = absurd (cc)
+has-member es b s cells (Some i) h = (i, refl, sym (is_out_in-nth_member es i b (child s i) cells) ∙ h)
+
+member-has : (es : Shapes) (b : Block) (s : State) (cells : Cells) (i : ℕ) (o : Option ℕ) → o ≡ Some i → is_out (nth_member es i) b (child s i) cells ≡ true → (is_some o && is_out_in es (unwrap_or o 0) b (child s (unwrap_or o 0)) cells) ≡ true
+member-has es b s cells i None e h = absurd (cc)
+member-has es b s cells i (Some j) e h =
+    let same : i ≡ j = cc in
+    subst (λ k. is_out_in es k b (child s k) cells ≡ true) same (is_out_in-nth_member es i b (child s i) cells ∙ h)
+
+out-list : (es : Shapes) (b : Block) (s : State) (cells : Cells) → is_out (list es) b s cells ≡ true → IsOutMember es b s cells
+unfolding is_out
+out-list es b s cells o =
+    let p = below-parts b s _ o in
+    let m = has-member es b s cells (holder es b s) p.below in
+    record { is_set = p.is_set; some = p.some; number = m.0; held = m.1; below = m.2 }
+
+list-out : (es : Shapes) (b : Block) (s : State) (cells : Cells) → IsOutMember es b s cells → is_out (list es) b s cells ≡ true
+unfolding is_out
+list-out es b s cells o = below-whole b s _ (record { is_set = o.is_set; some = o.some; below = member-has es b s cells o.number (holder es b s) o.held o.below })
+
+-- ---- both ways
+
+pub out_of_null : OutOfNull
+unfolding is_out
+out_of_null b s cells = refl
+
+pub out_of_fallback : OutOfFallback
+unfolding is_out
+out_of_fallback p f b s cells = (below-parts b s _, below-whole b s _)
+
+pub out_of_leaf : OutOfLeaf
+out_of_leaf tag b s cells made = (out-mem tag b s cells, mem-out tag b s cells made)
+
+pub out_of_region : OutOfRegion
+out_of_region size align e b s cells = (out-region size align e b s cells, region-out size align e b s cells)
+
+pub out_of_bitmap : OutOfBitmap
+out_of_bitmap unit count e b s cells = (out-bitmap unit count e b s cells, bitmap-out unit count e b s cells)
+
+pub out_of_kr : OutOfKr
+out_of_kr size e b s cells = (out-kr size e b s cells, kr-out size e b s cells)
+
+pub out_of_freelist : OutOfFreelist
+out_of_freelist least greatest e b s cells = (out-freelist least greatest e b s cells, freelist-out least greatest e b s cells)
+
+pub out_of_quantize : OutOfQuantize
+out_of_quantize kind e b s cells = (out-quantize kind e b s cells, quantize-out kind e b s cells)
+
+pub out_of_stats : OutOfStats
+out_of_stats e b s cells = (out-stats e b s cells, stats-out e b s cells)
+
+pub out_of_affix : OutOfAffix
+out_of_affix prefix suffix e b s cells = (out-affix prefix suffix e b s cells, affix-out prefix suffix e b s cells)
+
+pub out_of_segregate : OutOfSegregate
+out_of_segregate thresholds es b s cells = (out-segregate thresholds es b s cells, segregate-out thresholds es b s cells)
+
+pub out_of_buckets : OutOfBuckets
+out_of_buckets least greatest step es b s cells = (out-buckets least greatest step es b s cells, buckets-out least greatest step es b s cells)
+
+pub out_of_list : OutOfList
+out_of_list es b s cells = (out-list es b s cells, list-out es b s cells)

@@ -3,6 +3,7 @@ pub mod Covered
 pub mod Examples
 pub mod FreeTails
 pub mod Laws
+pub mod OutMeanings
 pub mod OwnCells
 pub mod Replay
 pub mod ShapeMeanings

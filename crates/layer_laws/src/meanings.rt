@@ -3,6 +3,7 @@
 ghost use Rattle.layer_laws.specs.UnitMeanings.{FreeRunsAreFree, TakenRunsAreTaken, FreeCellsAreUntagged, TaggedCellsHaveTheTag, FirstRunIsFirst, NoFirstRun, UnitsArePut, NumbersArePut, FreeCountCounts, LeastCellsAreLeast, NoCells, HasTagByBytes, FirstPlaceIsFirst, NoFirstPlace, UnitsFreeByBytes, FreePlaceIsLeast, NoFreePlace, BitmapPlaceIsLeast, NoBitmapPlace};
 ghost use Rattle.layer_laws.specs.ShapeMeanings.{MemberForIsFirst, ThresholdsAreAscending, HasMemberFor, BucketHasItsLengths, ProperHasBucket, ProperMembers, OwningMembers, MembersOfferWhatEachOffers, AlignmentIsLeast, DownHasAllBytes, GoodIsEnough, GoodOfNothing, GoodAboveLimit, AlignmentIsPower};
 ghost use Rattle.layer_laws.specs.BlockMeanings.{LiesInByBytes, ApartByBytes};
+ghost use Rattle.layer_laws.specs.OutMeanings.{OutOfNull, OutOfLeaf, OutOfRegion, OutOfBitmap, OutOfKr, OutOfFreelist, OutOfQuantize, OutOfStats, OutOfAffix, OutOfSegregate, OutOfBuckets, OutOfFallback, OutOfList};
 
 /// Runs of units and of cells, element by element, and the first run that a search finds.
 pub fn runs_of_units()
@@ -21,6 +22,23 @@ pub fn runs_of_units()
 pub fn blocks_by_bytes()
     ensures lies_in { LiesInByBytes }
     ensures apart { ApartByBytes }
+{}
+
+/// A block is out of a layer exactly where these facts hold of it, form by form.
+pub fn blocks_that_are_out()
+    ensures null { OutOfNull }
+    ensures leaf { OutOfLeaf }
+    ensures region { OutOfRegion }
+    ensures bitmap { OutOfBitmap }
+    ensures kr { OutOfKr }
+    ensures freelist { OutOfFreelist }
+    ensures quantize { OutOfQuantize }
+    ensures stats { OutOfStats }
+    ensures affix { OutOfAffix }
+    ensures segregate { OutOfSegregate }
+    ensures buckets { OutOfBuckets }
+    ensures fallback { OutOfFallback }
+    ensures list { OutOfList }
 {}
 
 /// The cells that are looked for are the least with room at a multiple of the alignment, a power of two.

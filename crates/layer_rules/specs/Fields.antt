@@ -34,14 +34,6 @@ mutual
 abbrev pub one_field : Fields → FieldsOf
 one_field fs = fields_and fs no_fields
 
-abbrev pub two_fields : Fields → Fields → FieldsOf
-two_fields fs gs = fields_and fs (fields_and gs no_fields)
-
--- the fields of these children in a row
-abbrev pub fields_row : List Fields → FieldsOf
-fields_row [] = no_fields
-fields_row (fs ∷ fss) = fields_and fs (fields_row fss)
-
 abbrev pub are_open : Fields → Bool
 are_open closed_fields = false
 are_open (open_fields kept children) = true

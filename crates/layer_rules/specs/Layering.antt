@@ -1,5 +1,5 @@
 -- Layering: what contracts see of a layer in a Space, the condition of a layer's calls, and what each call does.
-use Rattle.std.specs.Prelude.{ℕ, ◌≡◌, ◌≢◌, ◌/◌, ◌≤◌, ◌<◌, Bool, true, false, cond, List, [], length, get_or, Option, Some, option_map, Result, Ok, Err, is_ok, slice_get}
+use Rattle.std.specs.Prelude.{ℕ, ◌≡◌, ◌≢◌, ◌/◌, ◌≤◌, ◌<◌, Bool, true, false, List, [], length, get_or, Option, Some, option_map, Result, Ok, Err, is_ok, slice_get}
 use Rattle.space_core.specs.Cells.{cell_size}
 use Rattle.space_core.specs.Memory.{Memory, IsMemory}
 use Rattle.layer_rules.specs.declared.Block.{Block}
@@ -8,7 +8,7 @@ use Rattle.layer_rules.specs.declared.Refused.{Refused}
 use Rattle.layer_rules.specs.Blocks.{end_of, is_apart}
 use Rattle.layer_rules.specs.Shape.{Shape}
 use Rattle.layer_rules.specs.State.{State}
-use Rattle.layer_rules.specs.Fields.{Fields, Kept, are_open, open_fields, closed_fields, one_field}
+use Rattle.layer_rules.specs.Fields.{Fields, are_open}
 use Rattle.layer_rules.specs.Leaves.{IsLeaf}
 use Rattle.layer_rules.specs.Reading.{read_state}
 use Rattle.layer_rules.specs.Ownership.{extent, is_routed}
@@ -24,10 +24,6 @@ use Rattle.layer_rules.specs.Soundness.{IsSound}
 pub record Tree : Type 0 where
   pub shape : Shape
   pub fields : Fields
-
--- the fields of a layer over one parent, which is set up or not
-abbrev pub fields_if : Bool → Kept → Fields → Fields
-fields_if is_set kept parent = cond is_set (open_fields kept (one_field parent)) closed_fields
 
 -- the layer's state in a Space
 abbrev pub state_of : Tree → Memory → State

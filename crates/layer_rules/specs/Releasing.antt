@@ -9,7 +9,7 @@ use Rattle.layer_rules.specs.Offering.{in_range, good, member_for, bucket_for}
 use Rattle.layer_rules.specs.Down.{down}
 use Rattle.layer_rules.specs.Ownership.{holds, holder}
 use Rattle.layer_rules.specs.Shape.{Shape, null, mem, region, bitmap, kr, freelist, quantize, stats, affix, segregate, buckets, fallback, list, Shapes, no_members, member, leaf_tags}
-use Rattle.layer_rules.specs.State.{State, closed, is_open, States, no_children, child_and, child, children_of, with_child, with_children, with_own, region_own, bitmap_own, kr_own, cache_own, order_own, region_mode, mode_of, chunk_of, position_of, base_of, units_of, cached_of, all_closed}
+use Rattle.layer_rules.specs.State.{State, is_open, States, no_children, child_and, child, children_of, with_child, with_children, with_own, region_own, bitmap_own, kr_own, cache_own, order_own, region_mode, mode_of, chunk_of, position_of, base_of, units_of, cached_of, all_closed}
 use Rattle.layer_rules.specs.After.{after, Opened, opened, used_last}
 use Rattle.layer_rules.specs.Changing.{Change, bitmap_with, change_child, is_last, kr_put, recount, say}
 
@@ -80,10 +80,6 @@ unfoldable mutual
 -- the table without the cells of a tree's leaves
 abbrev pub without_leaves : Shape → Cells → Cells
 without_leaves e cells = fold (λ t tag. free_tag tag t) cells (leaf_tags e)
-
--- A layer that is torn down is closed, and has no cell.
-abbrev pub torn_down : Shape → Cells → Opened
-torn_down e cells = opened closed (without_leaves e cells)
 
 -- the table after the open members are torn down
 abbrev pub without_open : Shapes → States → Cells → Cells
