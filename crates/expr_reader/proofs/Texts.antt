@@ -11,7 +11,8 @@ use Rattle.std.proofs.lemmas.Fmt.{decimal_is_IsNumeral}
 use Rattle.std.proofs.lemmas.Str.Parse.{digit_from_value}
 use Rattle.expr_reader.specs.declared.token.Word.TheVariants.{Null, Mem, Region}
 use Rattle.expr_reader.specs.declared.token.Mark.TheVariants.{Open, Comma, Close}
-use Rattle.expr_reader.specs.Tokens.{Placed, word, number, mark, is_letter, is_digit, is_word_byte, meaning_of, further, tokens, tokens_from}
+use Rattle.std.specs.Char.{is_ascii_digit, is_ascii_lowercase}
+use Rattle.expr_reader.specs.Tokens.{Placed, word, number, mark, is_word_byte, meaning_of, further, tokens, tokens_from}
 use Rattle.expr_reader.specs.Trees.{Tree, null, mem, region, bitmap, kr, freelist, quantize, stats, affix, segregate, buckets, fallback, list}
 use Rattle.expr_reader.specs.Grammar.{Spells, Fits}
 use Rattle.expr_reader.specs.Canonical.{numeral, region_text, canonical, in_place}
@@ -21,11 +22,11 @@ use Rattle.expr_reader.proofs.Unique.{spells_unique}
 -- ---- numbers
 
 -- a digit is no letter and no space
-digit_begins : (d : ℕ) → digit_value d < 10 → (is_digit d ≡ true) × (is_letter d ≡ false) × (eqb d 32 ≡ false)
+digit_begins : (d : ℕ) → digit_value d < 10 → (is_ascii_digit d ≡ true) × (is_ascii_lowercase d ≡ false) × (eqb d 32 ≡ false)
 digit_begins d h = let range = digit_from_value d h in (grind (arith, nat_tests), grind (arith, nat_tests), grind (arith, nat_tests))
 
 -- digits before a comma
-digits_len : (ds more : List ℕ) → AllDigits 10 ds → prefix_len is_digit (ds ++ 44 ∷ more) ≡ length ds
+digits_len : (ds more : List ℕ) → AllDigits 10 ds → prefix_len is_ascii_digit (ds ++ 44 ∷ more) ≡ length ds
 digits_len [] more h = refl
 digits_len (d ∷ ds) more h = rw ((digit_begins d h.0).0, digits_len ds more h.1) (omega arith)
 

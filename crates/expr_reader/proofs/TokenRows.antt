@@ -12,7 +12,8 @@ use Rattle.std.specs.Option.{SomeIff}
 use Rattle.std.specs.Str.Parse.{AllDigits, digits_value}
 use Rattle.expr_reader.specs.declared.token.Token.{Token}
 use Rattle.expr_reader.specs.declared.token.Kind.TheVariants as kind
-use Rattle.expr_reader.specs.Tokens.{is_letter, is_digit, is_word_byte, word_of, Meaning, tokens_from, meaning_of, further, held}
+use Rattle.std.specs.Char.{is_ascii_digit, is_ascii_lowercase}
+use Rattle.expr_reader.specs.Tokens.{is_word_byte, word_of, Meaning, tokens_from, meaning_of, further, held}
 use Rattle.expr_reader.specs.Descent.{seen, kind_of}
 
 -- the first digits and one more are worth no more than all, so a number that is too large stays so
@@ -28,13 +29,13 @@ front_of [] len h = absurd (omega arith)
 front_of (b ∷ bs) len h = rw (add_comm 1 len, add-one) refl
 
 -- the token that a letter begins
-pub letter_kind : (text : List ℕ) (len : ℕ) → 0 < length text → is_letter (get_or text 0 0) ≡ true → len ≡ prefix_len is_word_byte (drop 1 text)
+pub letter_kind : (text : List ℕ) (len : ℕ) → 0 < length text → is_ascii_lowercase (get_or text 0 0) ≡ true → len ≡ prefix_len is_word_byte (drop 1 text)
     → kind.Word (word_of (take (1 + len) text)) ≡ kind_of (meaning_of (get_or text 0 0) (drop 1 text))
 letter_kind text len h is len-is = rw (front_of text len h, is, len-is) refl
 
 -- what stands before the first byte that is no digit
-digits_ahead : (bs : List ℕ) → AllDigits 10 (take (prefix_len is_digit bs) bs)
-digits_ahead bs = (numerals_by_value _ tells_by_index).to (take (prefix_len is_digit bs) bs) (λ i lt. grind (arith, common_steps, prefix_len_passes is_digit bs i 0))
+digits_ahead : (bs : List ℕ) → AllDigits 10 (take (prefix_len is_ascii_digit bs) bs)
+digits_ahead bs = (numerals_by_value _ tells_by_index).to (take (prefix_len is_ascii_digit bs) bs) (λ i lt. grind (arith, common_steps, prefix_len_passes is_ascii_digit bs i 0))
 
 -- what is read of digits, where they fit
 held_if : (n : Option ℕ) (P : Type 0) (value : ℕ) → P → SomeIff n (P × (value < 2 ^ 64)) value → n ≡ held value
@@ -42,7 +43,7 @@ held_if (Some n) P value p h = grind (arith, common_steps)
 held_if None P value p h = grind (arith, common_steps)
 
 -- the token that a digit begins
-pub digit_kind : (text : List ℕ) (len : ℕ) (n : Option ℕ) → 0 < length text → is_letter (get_or text 0 0) ≡ false → is_digit (get_or text 0 0) ≡ true → len ≡ prefix_len is_digit (drop 1 text)
+pub digit_kind : (text : List ℕ) (len : ℕ) (n : Option ℕ) → 0 < length text → is_ascii_lowercase (get_or text 0 0) ≡ false → is_ascii_digit (get_or text 0 0) ≡ true → len ≡ prefix_len is_ascii_digit (drop 1 text)
     → SomeIff n (AllDigits 10 (take (1 + len) text) × (digits_value 10 (take (1 + len) text) < 2 ^ 64)) (digits_value 10 (take (1 + len) text))
     → kind.Number n ≡ kind_of (meaning_of (get_or text 0 0) (drop 1 text))
 digit_kind text len n h isnt is len-is read =

@@ -1,5 +1,6 @@
 -- The tokens of a text, each with its place. Spaces stand between tokens and mean nothing.
-use Rattle.std.specs.Prelude.{ℕ, zero, suc, ◌+◌, ◌^◌, Bool, ◌&&◌, ◌||◌, ◌==◌, nat_le, nat_lt, if◌then◌else◌, List, [], ◌∷◌, take, codes, Option, Some, None}
+use Rattle.std.specs.Prelude.{ℕ, zero, suc, ◌+◌, ◌^◌, Bool, ◌||◌, ◌==◌, nat_lt, if◌then◌else◌, List, [], ◌∷◌, take, codes, Option, Some, None}
+use Rattle.std.specs.Char.{is_ascii_digit, is_ascii_lowercase}
 use Rattle.std.specs.List.{prefix_len}
 use Rattle.std.specs.Str.{bytes_eq}
 use Rattle.std.specs.Str.Parse.{digits_value}
@@ -20,15 +21,9 @@ pub record Placed : Type 0 where
   pub at : ℕ
   pub meaning : Meaning
 
-abbrev pub is_letter : ℕ → Bool
-is_letter b = nat_le 97 b && nat_le b 122
-
-abbrev pub is_digit : ℕ → Bool
-is_digit b = nat_le 48 b && nat_le b 57
-
 -- what may stand in a word behind its first letter
 abbrev pub is_word_byte : ℕ → Bool
-is_word_byte b = is_letter b || is_digit b
+is_word_byte b = is_ascii_lowercase b || is_ascii_digit b
 
 -- the words of the grammar, by their letters
 abbrev pub word_of : List ℕ → Word
@@ -41,8 +36,8 @@ word_of letters =
 -- the token that a byte begins, from the byte and what stands behind it
 abbrev pub meaning_of : ℕ → List ℕ → Meaning
 meaning_of b rest =
-    if is_letter b then word (word_of (b ∷ take (prefix_len is_word_byte rest) rest))
-    else (if is_digit b then number (digits_value 10 (b ∷ take (prefix_len is_digit rest) rest))
+    if is_ascii_lowercase b then word (word_of (b ∷ take (prefix_len is_word_byte rest) rest))
+    else (if is_ascii_digit b then number (digits_value 10 (b ∷ take (prefix_len is_ascii_digit rest) rest))
     else (if b == 40 then mark Open
     else (if b == 44 then mark Comma
     else (if b == 41 then mark Close
@@ -50,7 +45,7 @@ meaning_of b rest =
 
 -- how many further bytes that token has: it is as long as can be
 abbrev pub further : ℕ → List ℕ → ℕ
-further b rest = if is_letter b then prefix_len is_word_byte rest else (if is_digit b then prefix_len is_digit rest else 0)
+further b rest = if is_ascii_lowercase b then prefix_len is_word_byte rest else (if is_ascii_digit b then prefix_len is_ascii_digit rest else 0)
 
 -- the tokens from a place on, behind some bytes of a token that began before
 unfoldable pub tokens_from : (skipped at : ℕ) → List ℕ → List Placed

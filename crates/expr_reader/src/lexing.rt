@@ -1,26 +1,15 @@
 //! Texts as tokens.
 
 ghost use Rattle.std.specs.Prelude.{◌≡◌, ◌^◌, ◌≤◌, ◌<◌, false, [], length, drop, map, slice_index, IfOk};
+ghost use Rattle.std.specs.Char.{is_ascii_digit, is_ascii_lowercase};
 ghost use Rattle.std.specs.List.{prefix_len};
 ghost use Rattle.std.specs.Option.{SomeIff};
 ghost use Rattle.std.specs.Str.Parse.{AllDigits, digits_value};
-ghost use Rattle.expr_reader.specs.Tokens.{is_letter, is_digit, is_word_byte, word_of, meaning_of, further, tokens};
+ghost use Rattle.expr_reader.specs.Tokens.{is_word_byte, word_of, meaning_of, further, tokens};
 ghost use Rattle.expr_reader.specs.Descent.{kind_of, seen};
 
 use crate::token::{Kind, Mark, Token, Word};
 use std::alloc::{AllocError, Global};
-
-fn is_letter(byte: u8) -> bool
-    ensures { result ≡ is_letter byte }
-{
-    byte >= b'a' && byte <= b'z'
-}
-
-fn is_digit(byte: u8) -> bool
-    ensures { result ≡ is_digit byte }
-{
-    byte >= b'0' && byte <= b'9'
-}
 
 /// How many bytes at the front may stand in a word.
 fn word_len(bytes: &[u8]) -> usize
@@ -28,7 +17,7 @@ fn word_len(bytes: &[u8]) -> usize
     ensures len { result ≡ prefix_len is_word_byte bytes.now }
 {
     let mut len = 0;
-    while len < bytes.len() && (is_letter(bytes[len]) || is_digit(bytes[len])) {
+    while len < bytes.len() && (bytes[len].is_ascii_lowercase() || bytes[len].is_ascii_digit()) {
         len += 1;
     }
     len
@@ -37,10 +26,10 @@ fn word_len(bytes: &[u8]) -> usize
 /// How many digits stand at the front.
 fn digits_len(bytes: &[u8]) -> usize
     ensures within { result ≤ length bytes.now }
-    ensures len { result ≡ prefix_len is_digit bytes.now }
+    ensures len { result ≡ prefix_len is_ascii_digit bytes.now }
 {
     let mut len = 0;
-    while len < bytes.len() && is_digit(bytes[len]) {
+    while len < bytes.len() && bytes[len].is_ascii_digit() {
         len += 1;
     }
     len
@@ -82,10 +71,10 @@ fn token(text: &[u8]) -> (Kind, usize)
 {
     let byte = text[0];
     let rest = &text[1..];
-    if is_letter(byte) {
+    if byte.is_ascii_lowercase() {
         let len = word_len(rest);
         (Kind::Word(word(&text[..1 + len])), len)
-    } else if is_digit(byte) {
+    } else if byte.is_ascii_digit() {
         let len = digits_len(rest);
         (Kind::Number(number(&text[..1 + len])), len)
     } else {
@@ -95,7 +84,7 @@ fn token(text: &[u8]) -> (Kind, usize)
 
 /// What a byte is that begins neither a word nor a number.
 fn mark(byte: u8) -> Kind
-    requires { (is_letter byte ≡ false) × (is_digit byte ≡ false) }
+    requires { (is_ascii_lowercase byte ≡ false) × (is_ascii_digit byte ≡ false) }
     ensures { result ≡ kind_of (meaning_of byte []) }
 {
     match byte {
