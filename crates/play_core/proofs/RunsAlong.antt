@@ -52,83 +52,83 @@ had e name size r a (Some x) full h = absurd (cc)
 had e name size r a None true h = absurd (cc)
 had e name size r a None false h = (refl, refl)
 
-had-room : (e : Shape) (name size : ℕ) (r : Run) (a : Answer) → (performed e (Allocate name size) r).0 ≡ Ok a → HadRoom name r
+had_room : (e : Shape) (name size : ℕ) (r : Run) (a : Answer) → (performed e (Allocate name size) r).0 ≡ Ok a → HadRoom name r
 unfolding performed
-had-room e name size r a h =
+had_room e name size r a h =
     let k = had e name size r a (live_at r.world name) (nat_le most_live (length r.world)) h in
     let full : nat_le most_live (length r.world) ≡ false = k.1 in
     record { fresh = k.0; room = grind (arith, nat_tests) }
 
-null-exact : (e : Shape) (count leaves : ℕ) (r : Run) (call : Call) (a : Answer) → IsGoing e count leaves r → (performed e call r).0 ≡ Ok a → IsNullExactly e r call a
-null-exact e count leaves r (Free name) a g h = tt
-null-exact e count leaves r (Allocate name size) a g h =
-    let k = had-room e name size r a h in
+null_exact : (e : Shape) (count leaves : ℕ) (r : Run) (call : Call) (a : Answer) → IsGoing e count leaves r → (performed e call r).0 ≡ Ok a → IsNullExactly e r call a
+null_exact e count leaves r (Free name) a g h = tt
+null_exact e count leaves r (Allocate name size) a g h =
+    let k = had_room e name size r a h in
     let x = null-exactly e count leaves name size r g.run.held k.fresh k.room in
     ((λ (n : a ≡ Null). x.0 (h ∙ ap Ok n)), (λ z. let y = x.1 z in cc))
 
-step-moves : (e : Shape) (count leaves : ℕ) (r : Run) (call : Call) (a : Answer) → IsGoing e count leaves r → (performed e call r).0 ≡ Ok a
+step_moves : (e : Shape) (count leaves : ℕ) (r : Run) (call : Call) (a : Answer) → IsGoing e count leaves r → (performed e call r).0 ≡ Ok a
     → Moves (alignment e) count r.world call a (performed e call r).1.world
-step-moves e count leaves r call a g h =
+step_moves e count leaves r call a g h =
     subst (λ (x : Result Answer CallFault). IfOk x (λ answer. Moves (alignment e) count r.world call answer (performed e call r).1.world)) h
     (performed-moves e count leaves call r g.run.held)
 
-goes-on : (e : Shape) (count leaves : ℕ) (r : Run) (call : Call) → IsGoing e count leaves r → IsGoing e count leaves (performed e call r).1
-goes-on e count leaves r call g = record { run = run-goes_on e count leaves call r g.run; zeros = zeros-stay e call r g.zeros }
+goes_on : (e : Shape) (count leaves : ℕ) (r : Run) (call : Call) → IsGoing e count leaves r → IsGoing e count leaves (performed e call r).1
+goes_on e count leaves r call g = record { run = run-goes_on e count leaves call r g.run; zeros = zeros-stay e call r g.zeros }
 
-blocks-of : (e : Shape) (count leaves : ℕ) (p : Piece) → IsGoing e count leaves p.run → HasBlocks (alignment e) count p
-blocks-of e count leaves p g = record { blocks = run-has_blocks e count leaves p.run g.run.held; zeros = g.zeros }
+blocks_of : (e : Shape) (count leaves : ℕ) (p : Piece) → IsGoing e count leaves p.run → HasBlocks (alignment e) count p
+blocks_of e count leaves p g = record { blocks = run-has_blocks e count leaves p.run g.run.held; zeros = g.zeros }
 
 -- what holds along these pieces from a run on
 pub record IsAlong (e : Shape) (count : ℕ) (r : Run) (pieces : List Piece) : Type 0 where
   pub steps : StepsAlong e count r pieces
   pub blocks : Each (HasBlocks (alignment e) count) pieces
 
-lines-along : (e : Shape) (count leaves : ℕ) (r : Run) (lines : List (List ℕ)) → IsGoing e count leaves r → IsAlong e count r (map (line_piece r) lines)
-lines-along e count leaves r [] g = record { steps = tt; blocks = tt }
-lines-along e count leaves r (line ∷ lines) g =
-    let h = lines-along e count leaves r lines g in
-    record { steps = (refl, h.steps); blocks = (blocks-of e count leaves (line_piece r line) g, h.blocks) }
+lines_along : (e : Shape) (count leaves : ℕ) (r : Run) (lines : List (List ℕ)) → IsGoing e count leaves r → IsAlong e count r (map (line_piece r) lines)
+lines_along e count leaves r [] g = record { steps = tt; blocks = tt }
+lines_along e count leaves r (line ∷ lines) g =
+    let h = lines_along e count leaves r lines g in
+    record { steps = (refl, h.steps); blocks = (blocks_of e count leaves (line_piece r line) g, h.blocks) }
 
 -- an outcome that is an answer is what the call was answered
 abbrev IsOutcome : Shape → Run → Outcome → Type 0
 IsOutcome e r (Answers call answer next) = ((performed e call r).0 ≡ Ok answer) × ((performed e call r).1 ≡ next)
 IsOutcome e r (Stops fault) = Unit {0}
 
-call-is : (e : Shape) (r : Run) (call : Call) (x : Result Answer CallFault) (n : Run) → (performed e call r).0 ≡ x → (performed e call r).1 ≡ n → IsOutcome e r (call_outcome call x n)
-call-is e r call (Ok answer) n p q = (p, q)
-call-is e r call (Err fault) n p q = tt
+call_is : (e : Shape) (r : Run) (call : Call) (x : Result Answer CallFault) (n : Run) → (performed e call r).0 ≡ x → (performed e call r).1 ≡ n → IsOutcome e r (call_outcome call x n)
+call_is e r call (Ok answer) n p q = (p, q)
+call_is e r call (Err fault) n p q = tt
 
-read-is : (e : Shape) (r : Run) (x : Result Call LineFault) → IsOutcome e r (read_outcome e r x)
-read-is e r (Ok call) = call-is e r call (performed e call r).0 (performed e call r).1 refl refl
-read-is e r (Err fault) = tt
+read_is : (e : Shape) (r : Run) (x : Result Call LineFault) → IsOutcome e r (read_outcome e r x)
+read_is e r (Ok call) = call_is e r call (performed e call r).0 (performed e call r).1 refl refl
+read_is e r (Err fault) = tt
 
-either-is : (e : Shape) (r : Run) (b : Bool) (x y : Outcome) → IsOutcome e r x → IsOutcome e r y → IsOutcome e r (cond b x y)
-either-is e r true x y p q = p
-either-is e r false x y p q = q
+either_is : (e : Shape) (r : Run) (b : Bool) (x y : Outcome) → IsOutcome e r x → IsOutcome e r y → IsOutcome e r (cond b x y)
+either_is e r true x y p q = p
+either_is e r false x y p q = q
 
-outcome-is : (e : Shape) (before : ℕ) (r : Run) (line : List ℕ) → IsOutcome e r (outcome e before r line)
+outcome_is : (e : Shape) (before : ℕ) (r : Run) (line : List ℕ) → IsOutcome e r (outcome e before r line)
 unfolding outcome
-outcome-is e before r line =
+outcome_is e before r line =
     let read = read_outcome e r (line_call (body_of line)) in
-    either-is e r (nat_lt most_line (length (body_of line)) && nat_le (before + 257) most_input) (Stops (LineIn NotBuiltYet))
+    either_is e r (nat_lt most_line (length (body_of line)) && nat_le (before + 257) most_input) (Stops (LineIn NotBuiltYet))
     (cond (nat_lt most_input (before + length line)) (Stops TooMuchInput) read) tt
-    (either-is e r (nat_lt most_input (before + length line)) (Stops TooMuchInput) read tt (read-is e r (line_call (body_of line))))
+    (either_is e r (nat_lt most_input (before + length line)) (Stops TooMuchInput) read tt (read_is e r (line_call (body_of line))))
 
-on-along : (e : Shape) (count leaves number : ℕ) (r : Run) (o : Outcome) (rest : Run → Told) → IsGoing e count leaves r → IsOutcome e r o → ((next : Run) → IsGoing e count leaves next → IsAlong e count next (rest next).pieces)
+on_along : (e : Shape) (count leaves number : ℕ) (r : Run) (o : Outcome) (rest : Run → Told) → IsGoing e count leaves r → IsOutcome e r o → ((next : Run) → IsGoing e count leaves next → IsAlong e count next (rest next).pieces)
     → IsAlong e count r (told_on number r o rest).pieces
-on-along e count leaves number r (Stops fault) rest g w f =
-    record { steps = (refl, tt); blocks = (blocks-of e count leaves (line_piece r (fault_text number fault)) g, tt) }
-on-along e count leaves number r (Answers call answer next) rest g w f =
-    let n : IsGoing e count leaves next = subst (λ (x : Run). IsGoing e count leaves x) w.1 (goes-on e count leaves r call g) in
+on_along e count leaves number r (Stops fault) rest g w f =
+    record { steps = (refl, tt); blocks = (blocks_of e count leaves (line_piece r (fault_text number fault)) g, tt) }
+on_along e count leaves number r (Answers call answer next) rest g w f =
+    let n : IsGoing e count leaves next = subst (λ (x : Run). IsGoing e count leaves x) w.1 (goes_on e count leaves r call g) in
     let h = f next n in
-    let m : Moves (alignment e) count r.world call answer next.world = subst (λ (x : Run). Moves (alignment e) count r.world call answer x.world) w.1 (step-moves e count leaves r call answer g w.0) in
-    record { steps = ((m, null-exact e count leaves r call answer g w.0), h.steps); blocks = (blocks-of e count leaves (answer_piece call answer next) n, h.blocks) }
+    let m : Moves (alignment e) count r.world call answer next.world = subst (λ (x : Run). Moves (alignment e) count r.world call answer x.world) w.1 (step_moves e count leaves r call answer g w.0) in
+    record { steps = ((m, null_exact e count leaves r call answer g w.0), h.steps); blocks = (blocks_of e count leaves (answer_piece call answer next) n, h.blocks) }
 
-told-along : (e : Shape) (count leaves number before : ℕ) (r : Run) (lines : List (List ℕ)) → IsGoing e count leaves r → IsAlong e count r (told_from e number before r lines).pieces
-told-along e count leaves number before r [] g = lines-along e count leaves r (report_of e r) g
-told-along e count leaves number before r (line ∷ lines) g =
-    on-along e count leaves number r (outcome e before r line) (λ next. told_from e (number + 1) (before + length line) next lines) g (outcome-is e before r line)
-    (λ next n. told-along e count leaves (number + 1) (before + length line) next lines n)
+told_along : (e : Shape) (count leaves number before : ℕ) (r : Run) (lines : List (List ℕ)) → IsGoing e count leaves r → IsAlong e count r (told_from e number before r lines).pieces
+told_along e count leaves number before r [] g = lines_along e count leaves r (report_of e r) g
+told_along e count leaves number before r (line ∷ lines) g =
+    on_along e count leaves number r (outcome e before r line) (λ next. told_from e (number + 1) (before + length line) next lines) g (outcome_is e before r line)
+    (λ next n. told_along e count leaves (number + 1) (before + length line) next lines n)
 
 -- ---- the first run
 
@@ -137,18 +137,18 @@ begins e cells o t h =
     let k = run-begins (root_of e) 0 (free_cells cells) (leaf_count e) o t.proper t.covered t.distinct (made_tags e t) (no_cells e cells t) h in
     record { run = subst (λ (n : ℕ). IsRun (root_of e) n (leaf_count e) (run_of o.state o.cells [])) (length-replicate cells 0) k; zeros = record { zeros = tt } }
 
-opened-tells : (e : Expression) (cells : ℕ) (p : Opening) (input : List ℕ) → HasTreeShape e 0 → opening_of e cells ≡ p → TellsBlockRun cells (told_opening (root_of e) p input)
-opened-tells e cells (Err node) input t q = tt
-opened-tells e cells (Ok o) input t q =
+opened_tells : (e : Expression) (cells : ℕ) (p : Opening) (input : List ℕ) → HasTreeShape e 0 → opening_of e cells ≡ p → TellsBlockRun cells (told_opening (root_of e) p input)
+opened_tells e cells (Err node) input t q = tt
+opened_tells e cells (Ok o) input t q =
     let r = run_of o.state o.cells [] in
-    let along = told-along (root_of e) cells (leaf_count e) 1 0 r (lines_of input) (begins e cells o t q) in
+    let along = told_along (root_of e) cells (leaf_count e) 1 0 r (lines_of input) (begins e cells o t q) in
     record { opened = o; opens = q; steps = along.steps; blocks = along.blocks }
 
-accepted-tells : (c : Option Command) (e : Expression) (cells : ℕ) → MayAsk c (Replays e cells) → (input : List ℕ) → TellsBlockRun cells (telling (Replays e cells) input)
-accepted-tells None e cells a input = absurd (cc)
-accepted-tells (Some (check text)) e cells a input = absurd a
-accepted-tells (Some (replay text n)) e cells a input = opened-tells e cells (opening_of e cells) input (accepted-has_shape text e a.0 0) refl
+accepted_tells : (c : Option Command) (e : Expression) (cells : ℕ) → MayAsk c (Replays e cells) → (input : List ℕ) → TellsBlockRun cells (telling (Replays e cells) input)
+accepted_tells None e cells a input = absurd (cc)
+accepted_tells (Some (check text)) e cells a input = absurd a
+accepted_tells (Some (replay text n)) e cells a input = opened_tells e cells (opening_of e cells) input (accepted-has_shape text e a.0 0) refl
 
 -- whatever the words and the input
-pub whole-runs : WholeRuns
-whole-runs words e cells a input = accepted-tells (command_of words) e cells a input
+pub whole_runs : WholeRuns
+whole_runs words e cells a input = accepted_tells (command_of words) e cells a input

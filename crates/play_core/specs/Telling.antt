@@ -21,16 +21,16 @@ abbrev pub usage_text : List ℕ
 usage_text = codes "usage: heaplay check EXPR\n       heaplay replay EXPR CELLS\n"
 
 -- what is wrong with an expression, and where
-abbrev pub fault_line : (cause : List ℕ) (at : ℕ) → List ℕ
-fault_line cause at = codes "expression: " ++ (cause ++ (codes " at " ++ (decimal at ++ codes "\n")))
+abbrev pub cause_line : (cause : List ℕ) (at : ℕ) → List ℕ
+cause_line cause at = codes "expression: " ++ (cause ++ (codes " at " ++ (decimal at ++ codes "\n")))
 
 -- the line of a fault; want of memory has none
 abbrev pub expression_text : ExprFault → List ℕ
-expression_text (Syntax at) = fault_line (codes "syntax") at
-expression_text (NumberTooLarge at) = fault_line (codes "number too large") at
-expression_text (TooDeep at) = fault_line (codes "too deep") at
-expression_text (BadParameter at) = fault_line (codes "bad parameter") at
-expression_text (NeedsAlignment at) = fault_line (codes "needs alignment") at
+expression_text (Syntax at) = cause_line (codes "syntax") at
+expression_text (NumberTooLarge at) = cause_line (codes "number too large") at
+expression_text (TooDeep at) = cause_line (codes "too deep") at
+expression_text (BadParameter at) = cause_line (codes "bad parameter") at
+expression_text (NeedsAlignment at) = cause_line (codes "needs alignment") at
 expression_text NoMemory = []
 
 unfoldable pub refused_text : (node : ℕ) → List ℕ

@@ -6,7 +6,7 @@ ghost use Rattle.expr_reader.specs.Canonical.{canonical};
 ghost use Rattle.expr_reader.specs.Trees.{tree_of};
 ghost use Rattle.play_core.specs.CheckText.{check_text, offered, offers_text, shape_text};
 ghost use Rattle.play_core.specs.Runs.{HasAllFree};
-ghost use Rattle.play_core.specs.Telling.{expression_text, fault_line};
+ghost use Rattle.play_core.specs.Telling.{cause_line, expression_text};
 
 use expr_reader::{Expr, ExprFault, build, print};
 use layer_core::{Layer, Offers};
@@ -15,9 +15,9 @@ use std::alloc::{AllocError, Global};
 use trace_text::{Line, push_number};
 
 // The line that tells what is wrong with an expression, and where.
-fn fault_line(cause: &str, at: u64) -> Line
+fn cause_line(cause: &str, at: u64) -> Line
     requires { length cause.now ≤ 100 }
-    ensures { result.bytes ≡ fault_line cause.now at }
+    ensures { result.bytes ≡ cause_line cause.now at }
 {
     let mut line = Line::new();
     line.push_str("expression: ");
@@ -33,11 +33,11 @@ pub(crate) fn expression_line(fault: ExprFault) -> Line
     ensures { result.bytes ≡ expression_text fault }
 {
     match fault {
-        ExprFault::Syntax { at } => fault_line("syntax", at),
-        ExprFault::NumberTooLarge { at } => fault_line("number too large", at),
-        ExprFault::TooDeep { at } => fault_line("too deep", at),
-        ExprFault::BadParameter { at } => fault_line("bad parameter", at),
-        ExprFault::NeedsAlignment { at } => fault_line("needs alignment", at),
+        ExprFault::Syntax { at } => cause_line("syntax", at),
+        ExprFault::NumberTooLarge { at } => cause_line("number too large", at),
+        ExprFault::TooDeep { at } => cause_line("too deep", at),
+        ExprFault::BadParameter { at } => cause_line("bad parameter", at),
+        ExprFault::NeedsAlignment { at } => cause_line("needs alignment", at),
         ExprFault::NoMemory => Line::new(),
     }
 }

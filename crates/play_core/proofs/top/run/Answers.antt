@@ -1,11 +1,11 @@
 use Rattle.std.proofs.Common.{map, string_bytes}
 use Rattle.play_core.specs.Command.{command_of}
 use Rattle.play_core.proofs.Clauses.{runs_good, runs_usage, runs_expression, runs_refused, runs_read_fault, runs_write_fault, runs_free, runs_checked}
-use Rattle.play_core.proofs.RunsAlong.{whole-runs}
+use Rattle.play_core.proofs.RunsAlong.{whole_runs}
 use Rattle.play_core.proofs.top.run.Goals as goal
 
 pub returns-clause-moves : goal.returns-clause-moves
-returns-clause-moves g c e cells a input = whole-runs (map string_bytes c.args.words.now) e cells a input
+returns-clause-moves g c e cells a input = whole_runs (map string_bytes c.args.words.now) e cells a input
 
 pub returns-clause-good : goal.returns-clause-good
 returns-clause-good g c = runs_good (command_of (map string_bytes c.args.words.now)) _ _ _ _ c.obey.new.space c.obey.result c.obey.ensures.runs
