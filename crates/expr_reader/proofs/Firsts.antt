@@ -1,26 +1,38 @@
 -- The machine's first fault is the first fault of the row.
-use Rattle.std.proofs.Common.{◌≡◌, ℕ, ◌+◌, ◌^◌, Bool, true, false, cond, List, [], ◌∷◌, ◌++◌, Option, Some, None, Result, Ok, Err, refl, sym, ◌∙◌, ap, subst, inl, inr, ◌⊎◌, arith}
-use Rattle.std.specs.Prelude.{nat_lt, nat_le, count_by}
+use Rattle.std.proofs.Common.{◌≡◌, ℕ, suc, ◌+◌, ◌≤◌, ◌^◌, Bool, true, false, cond, List, [], ◌∷◌, ◌++◌, Option, Some, None, Result, Ok, Err, refl, sym, ◌∙◌, ap, subst, inl, inr, ◌⊎◌, arith}
+use Rattle.std.specs.Prelude.{nat_lt, nat_le, count_by, IsTrue}
 use Rattle.std.proofs.lemmas.List.Sums.{sum_by-append}
 use Rattle.std.proofs.lemmas.Bool.{ltb-true, ltb-false, leb-true, leb-false}
 use Rattle.expr_reader.specs.declared.fault.ExprFault.{ExprFault}
 use Rattle.expr_reader.specs.declared.fault.ExprFault.TheVariants.{Syntax, NumberTooLarge, TooDeep, BadParameter, NeedsAlignment, NoMemory}
-use Rattle.expr_reader.specs.declared.token.Word.TheVariants.{Null, Mem, Region, Unknown}
+use Rattle.expr_reader.specs.declared.token.Word.TheVariants.{Named, Chosen, Unknown}
+use Rattle.expr_reader.specs.declared.token.Name.{Name}
+use Rattle.expr_reader.specs.declared.signature.Signature.{Signature}
+use Rattle.expr_reader.specs.declared.signature.Entry.{Entry}
+use Rattle.expr_reader.specs.declared.signature.Entry.TheVariants.{Missing, Alone, Takes}
+use Rattle.expr_reader.specs.Signatures.{takes, after_number, after_choice, after_layer, ends}
 use Rattle.expr_reader.specs.declared.token.Mark.{Mark}
 use Rattle.expr_reader.specs.declared.token.Mark.TheVariants.{Open, Comma, Close}
-use Rattle.expr_reader.specs.Tokens.{Placed, Meaning, word, number, mark, stray}
+use Rattle.expr_reader.specs.Tokens.{Placed, Meaning, word, mark, stray}
+use Rattle.expr_reader.specs.Tokens as meaning
 use Rattle.expr_reader.specs.Grammar.{IsViable}
-use Rattle.expr_reader.specs.Faults.{IsTooLarge, is_layer, is_close, layers_above, most_layers, IsOneTooMany, StopsAt, Stands, FirstFault}
+use Rattle.expr_reader.specs.Faults.{IsTooLarge, is_inner, is_layer, is_close, layers_above, most_layers, IsOneTooMany, StopsAt, Stands, FirstFault}
 use Rattle.expr_reader.specs.Descent.{same_mark}
-use Rattle.expr_reader.proofs.Machine.{Symbol, tree, numeral, this, region_symbols, onto, step, closes, objection, go, finish, never}
-use Rattle.expr_reader.proofs.Agreeing.{large, deep}
+use Rattle.expr_reader.proofs.Machine.{Symbol, tree, this, rest, opened, goes_on, behind_tree, under, onto, step, closes, deep_objection, objection, go, finish, never, go_past, closes-behind, onto-under}
 use Rattle.expr_reader.proofs.Viability.{and_go, go_append, viable_from, viable_goes, sentence_from, sentence_goes}
+
+-- the limits of reading
+abbrev pub large : ℕ → Bool
+large n = cond (nat_lt n (2 ^ 64)) false true
+
+abbrev pub deep : ℕ → Bool
+deep above = nat_le most_layers above
 
 -- ---- one reason is enough
 
 too_large_word : (before : List Placed) (k : Meaning) → IsTooLarge k → IsOneTooMany before k → ⊥
 too_large_word before (word w) h g = h
-too_large_word before (number n) h g = absurd cc
+too_large_word before (meaning.number n) h g = absurd cc
 too_large_word before (mark m) h g = h
 too_large_word before stray h g = h
 
@@ -82,22 +94,38 @@ mark_count Close Open b ss more e h = absurd cc
 mark_count Close Comma b ss more e h = absurd cc
 mark_count m n false ss more e h = absurd cc
 
+opened_count : (o : Entry) (ss more : List Symbol) → onto (opened o) ss ≡ Some more → closes more ≡ closes ss + one_if (is_inner o)
+unfolding one_if
+opened_count Missing ss more h = absurd cc
+opened_count Alone ss more h = let same : ss ≡ more = cc in omega (arith, ap closes same)
+opened_count (Takes g) ss more h = let same : this Open ∷ rest g ∷ ss ≡ more = cc in omega (arith, ap closes same)
+
+onto_count : (o : Option Signature) (ss more : List Symbol) → onto (goes_on o) ss ≡ Some more → closes more ≡ suc (closes ss)
+onto_count None ss more h = absurd cc
+onto_count (Some g) ss more h = let same : this Comma ∷ rest g ∷ ss ≡ more = cc in sym (ap closes same)
+
+layer_count : (o : Option (List Symbol)) (p : Entry) (ss more : List Symbol) → ((xs : List Symbol) → o ≡ Some xs → closes (xs ++ ss) ≡ suc (closes ss)) → onto (under o (opened p)) ss ≡ Some more → closes more ≡ suc (closes ss) + one_if (is_inner p)
+layer_count None p ss more below h = absurd cc
+layer_count (Some xs) p ss more below h = omega (arith, opened_count p (xs ++ ss) more (sym (onto-under xs ss (opened p)) ∙ h), below xs refl)
+
 step_count : (ss more : List Symbol) (k : Meaning) → step ss k ≡ Some more → closes more + one_if (is_close k) ≡ closes ss + one_if (is_layer k)
 unfolding one_if
 step_count [] more k h = absurd cc
-step_count (tree ∷ ss) more (word Null) h = let same : ss ≡ more = cc in omega (arith, ap closes same)
-step_count (tree ∷ ss) more (word Mem) h = let same : ss ≡ more = cc in omega (arith, ap closes same)
-step_count (tree ∷ ss) more (word Region) h = let same : region_symbols ++ ss ≡ more = cc in omega (arith, ap closes same)
+step_count (tree ∷ ss) more (word (Named k)) h = omega (arith, opened_count (takes k) ss more h)
+step_count (tree ∷ ss) more (word (Chosen c)) h = absurd cc
 step_count (tree ∷ ss) more (word Unknown) h = absurd cc
-step_count (tree ∷ ss) more (number n) h = absurd cc
+step_count (tree ∷ ss) more (meaning.number n) h = absurd cc
 step_count (tree ∷ ss) more (mark n) h = absurd cc
 step_count (tree ∷ ss) more stray h = absurd cc
-step_count (numeral ∷ ss) more (word w) h = absurd cc
-step_count (numeral ∷ ss) more (number n) h = let same : ss ≡ more = cc in omega (arith, ap closes same)
-step_count (numeral ∷ ss) more (mark n) h = absurd cc
-step_count (numeral ∷ ss) more stray h = absurd cc
+step_count (rest g ∷ ss) more (word (Named k)) h =
+    omega (arith, layer_count (behind_tree (ends (Some g)) (after_layer (Some g))) (takes k) ss more (λ xs. closes-behind (ends (Some g)) (after_layer (Some g)) xs ss) h)
+step_count (rest g ∷ ss) more (word (Chosen c)) h = omega (arith, onto_count (after_choice c (Some g)) ss more h)
+step_count (rest g ∷ ss) more (word Unknown) h = absurd cc
+step_count (rest g ∷ ss) more (meaning.number n) h = omega (arith, onto_count (after_number (Some g)) ss more h)
+step_count (rest g ∷ ss) more (mark n) h = absurd cc
+step_count (rest g ∷ ss) more stray h = absurd cc
 step_count (this m ∷ ss) more (word w) h = absurd cc
-step_count (this m ∷ ss) more (number n) h = absurd cc
+step_count (this m ∷ ss) more (meaning.number n) h = absurd cc
 step_count (this m ∷ ss) more (mark n) h = mark_count m n (same_mark m n) ss more refl h
 step_count (this m ∷ ss) more stray h = absurd cc
 
@@ -108,22 +136,17 @@ count_push p xs t = omega (arith, sum_by-append (λ (x : Placed). cond (p x) 1 0
 -- ---- one token
 
 no_objection : (above at : ℕ) (k : Meaning) → objection never never above at k ≡ None
-no_objection above at (word Null) = refl
-no_objection above at (word Mem) = refl
-no_objection above at (word Region) = refl
+no_objection above at (word (Named k)) = never_deep (takes k)
+  where
+    never_deep : (o : Entry) → deep_objection o false at ≡ None
+    never_deep Missing = refl
+    never_deep Alone = refl
+    never_deep (Takes g) = refl
+no_objection above at (word (Chosen c)) = refl
 no_objection above at (word Unknown) = refl
-no_objection above at (number n) = refl
+no_objection above at (meaning.number n) = refl
 no_objection above at (mark m) = refl
 no_objection above at stray = refl
-
-module _ (big low : ℕ → Bool) where
-  abbrev past : Option (List Symbol) → Option ExprFault → (at : ℕ) → List Placed → Result (List Symbol) ExprFault
-  past o p at ts = elim o as (λ x. Result (List Symbol) ExprFault) [ None ↦ Err (Syntax at) | Some more ↦ (elim p as (λ x. Result (List Symbol) ExprFault) [ Some f ↦ Err f | None ↦ go big low more ts ]) ]
-
-  -- one token, by what it does to the symbols and what is objected to it
-  go_past : (ss : List Symbol) (t : Placed) (ts : List Placed) (o : Option (List Symbol)) (p : Option ExprFault) → step ss t.meaning ≡ o → objection big low (closes ss) t.at t.meaning ≡ p → go big low ss (t ∷ ts) ≡ past o p t.at ts
-  unfolding go
-  go_past ss t ts o p e h = (λ i. past (e i) (h i) t.at ts)
 
 pushed : (before : List Placed) (ss : List Symbol) (t : Placed) → State before ss → go never never (tree ∷ []) (before ++ t ∷ []) ≡ go never never ss (t ∷ [])
 pushed before ss t st = go_append never never before (t ∷ []) (tree ∷ []) ∙ ap (λ a. and_go never never a (t ∷ [])) st.came
@@ -153,23 +176,34 @@ Objected : (before : List Placed) (at : ℕ) (k : Meaning) → Option ExprFault 
 Objected before at k (Some f) = (v : IsViable (before ++ record { at = at; meaning = k } ∷ [])) → StopsAt before (record { at = at; meaning = k }) f
 Objected before at k None = (IsTooLarge k → ⊥) × (IsOneTooMany before k → ⊥)
 
-objected_number : (before : List Placed) (at n : ℕ) (b : Bool) → nat_lt n (2 ^ 64) ≡ b → Objected before at (number n) (cond (cond b false true) (Some (NumberTooLarge at)) None)
+objected_number : (before : List Placed) (at n : ℕ) (b : Bool) → nat_lt n (2 ^ 64) ≡ b → Objected before at (meaning.number n) (cond (cond b false true) (Some (NumberTooLarge at)) None)
 unfolding Objected
 objected_number before at n true e = (λ h. omega (arith, ltb-true n (2 ^ 64) e), λ h. absurd cc)
 objected_number before at n false e = λ v. (refl, v, ltb-false n (2 ^ 64) e)
 
-objected_region : (before : List Placed) (at : ℕ) (b : Bool) → nat_le most_layers (layers_above before) ≡ b → Objected before at (word Region) (cond b (Some (TooDeep at)) None)
-unfolding Objected
-objected_region before at true e = λ v. (refl, v, (refl, leb-true most_layers (layers_above before) e))
-objected_region before at false e = (λ h. h, λ h. omega (arith, leb-false most_layers (layers_above before) e, h.1))
+-- what is objected to a word with these parts
+ObjectedWord : (before : List Placed) (at : ℕ) (k : Name) → Entry → Option ExprFault → Type 0
+ObjectedWord before at k o (Some f) = (v : IsViable (before ++ record { at = at; meaning = word (Named k) } ∷ [])) → StopsAt before (record { at = at; meaning = word (Named k) }) f
+ObjectedWord before at k o None = IsTrue (is_inner o) × (most_layers ≤ layers_above before) → ⊥
+
+objected_word : (before : List Placed) (at : ℕ) (k : Name) (o : Entry) (b : Bool) → takes k ≡ o → nat_le most_layers (layers_above before) ≡ b → ObjectedWord before at k o (deep_objection o b at)
+unfolding ObjectedWord
+objected_word before at k Missing b is e = λ h. absurd cc
+objected_word before at k Alone b is e = λ h. absurd cc
+objected_word before at k (Takes g) true is e = λ v. (refl, v, (subst (λ o. IsTrue (is_inner o)) (sym is) refl, leb-true most_layers (layers_above before) e))
+objected_word before at k (Takes g) false is e = λ h. omega (arith, leb-false most_layers (layers_above before) e, h.1)
+
+objected_named : (before : List Placed) (at : ℕ) (k : Name) (p : Option ExprFault) → ObjectedWord before at k (takes k) p → Objected before at (word (Named k)) p
+unfolding Objected ObjectedWord
+objected_named before at k None h = (λ e. e, h)
+objected_named before at k (Some f) h = h
 
 objected : (before : List Placed) (at : ℕ) (k : Meaning) → Objected before at k (objection large deep (layers_above before) at k)
 unfolding Objected
-objected before at (word Null) = (λ h. h, λ h. absurd cc)
-objected before at (word Mem) = (λ h. h, λ h. absurd cc)
-objected before at (word Region) = objected_region before at (nat_le most_layers (layers_above before)) refl
+objected before at (word (Named k)) = objected_named before at k (deep_objection (takes k) (deep (layers_above before)) at) (objected_word before at k (takes k) (nat_le most_layers (layers_above before)) refl refl)
+objected before at (word (Chosen c)) = (λ h. h, λ h. absurd cc)
 objected before at (word Unknown) = (λ h. h, λ h. absurd cc)
-objected before at (number n) = objected_number before at n (nat_lt n (2 ^ 64)) refl
+objected before at (meaning.number n) = objected_number before at n (nat_lt n (2 ^ 64)) refl
 objected before at (mark m) = (λ h. h, λ h. absurd cc)
 objected before at stray = (λ h. h, λ h. absurd cc)
 

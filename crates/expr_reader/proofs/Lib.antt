@@ -1,10 +1,12 @@
 pub mod TokenRows
-pub mod Descents
-pub mod Machine
-pub mod Agreeing
 pub mod Unique
+pub mod Machine
 pub mod Viability
 pub mod Firsts
+pub mod Steps
+pub mod Nothing
+pub mod Told
+pub mod Agreeing
 pub mod Whole
 pub mod Texts
 pub mod Printed

@@ -13,7 +13,8 @@ use Rattle.std.specs.Str.Parse.{AllDigits, digits_value}
 use Rattle.expr_reader.specs.declared.token.Token.{Token}
 use Rattle.expr_reader.specs.declared.token.Kind.TheVariants as kind
 use Rattle.std.specs.Char.{is_ascii_digit, is_ascii_lowercase}
-use Rattle.expr_reader.specs.Tokens.{is_word_byte, word_of, Meaning, tokens_from, meaning_of, further, held}
+use Rattle.expr_reader.specs.Words.{word_of}
+use Rattle.expr_reader.specs.Tokens.{is_word_byte, Meaning, tokens_from, meaning_of, further, held}
 use Rattle.expr_reader.specs.Descent.{seen, kind_of}
 
 -- the first digits and one more are worth no more than all, so a number that is too large stays so

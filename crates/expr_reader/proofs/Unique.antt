@@ -1,200 +1,175 @@
 -- No row of tokens spells two trees, and no tree's row begins another's.
-use Rattle.std.proofs.Common.{◌≡◌, ℕ, List, [], ◌∷◌, ◌++◌, sym, ◌∙◌, ap, append_assoc}
-use Rattle.expr_reader.specs.declared.token.Word.TheVariants.{Null, Mem, Region}
+use Rattle.std.proofs.Common.{◌≡◌, ℕ, true, false, List, [], ◌∷◌, ◌++◌, Option, None, refl, sym, ◌∙◌, ap, subst, append_assoc}
+use Rattle.expr_reader.specs.declared.token.Name.{Name}
+use Rattle.expr_reader.specs.declared.token.Choice.{Choice}
+use Rattle.expr_reader.specs.declared.token.Word.TheVariants.{Named, Chosen, Unknown}
 use Rattle.expr_reader.specs.declared.token.Mark.TheVariants.{Open, Comma, Close}
-use Rattle.expr_reader.specs.Tokens.{Placed, Meaning, word, number, mark}
-use Rattle.expr_reader.specs.Trees.{Tree, null, mem, region, bitmap, kr, freelist, quantize, stats, affix, segregate, buckets, fallback, list}
-use Rattle.expr_reader.specs.Grammar.{Ends, ◌then◌, BeginsAt, Spells}
+use Rattle.expr_reader.specs.declared.signature.Signature.{Signature}
+use Rattle.expr_reader.specs.Tokens.{Placed, Meaning, word, mark, stray}
+use Rattle.expr_reader.specs.Tokens as meaning
+use Rattle.expr_reader.specs.Signatures.{takes, inner, after_number, after_choice, after_layer, ends}
+use Rattle.expr_reader.specs.Trees.{Tree, leaf, node, Args, last, number, choice, layer}
+use Rattle.expr_reader.specs.Grammar.{Ends, ◌then◌, BeginsAt, Spells, Fills}
 
--- a row that is one token
-pub record WordRow (at : ℕ) (m : Meaning) (row : List Placed) : Type 0 where
-  pub w : Placed
-  pub is : row ≡ w ∷ []
-  pub place : w.at ≡ at
-  pub meaning : w.meaning ≡ m
+-- a token with this meaning, and what stands behind it
+pub behind : (m : Meaning) (R : List Placed → Type 0) (row : List Placed) → (m then R) row → (t : Placed) × (ts : List Placed) × (row ≡ t ∷ ts) × (t.meaning ≡ m) × R ts
+behind m R [] h = absurd h
+behind m R (t ∷ ts) h = (t, ts, refl, h.0, h.1)
 
-pub word_row : (at : ℕ) (m : Meaning) (row : List Placed) → BeginsAt at row → (m then Ends) row → WordRow at m row
-word_row at m [] h k = absurd h
-word_row at m (t ∷ ts) h k = record { w = t; is = ap (λ r. t ∷ r) k.1; place = h; meaning = k.0 }
-
--- the row of a region, token by token
-pub record RegionRow (at size align : ℕ) (e : Tree) (row : List Placed) : Type 0 where
-  pub w : Placed
-  pub a : Placed
-  pub b : Placed
-  pub c : Placed
-  pub d : Placed
-  pub f : Placed
-  pub z : Placed
-  pub inner : List Placed
-  pub is : row ≡ w ∷ a ∷ b ∷ c ∷ d ∷ f ∷ (inner ++ z ∷ [])
-  pub place : w.at ≡ at
-  pub word_is : w.meaning ≡ word Region
-  pub open_is : a.meaning ≡ mark Open
-  pub size_is : b.meaning ≡ number size
-  pub comma_is : c.meaning ≡ mark Comma
-  pub align_is : d.meaning ≡ number align
-  pub next_is : f.meaning ≡ mark Comma
-  pub close_is : z.meaning ≡ mark Close
-  pub spelled : Spells e inner
-
--- a mark at the end
-mark_row : (row : List Placed) → (mark Close then Ends) row → (z : Placed) × (row ≡ z ∷ []) × (z.meaning ≡ mark Close)
-mark_row [] h = absurd h
-mark_row (z ∷ zs) h = (z, ap (λ r. z ∷ r) h.1, h.0)
-
-pub region_row : (at size align : ℕ) (e : Tree) (row : List Placed) → Spells (region at size align e) row → RegionRow at size align e row
-region_row at size align e [] h = absurd h.0
-region_row at size align e (w ∷ []) h = absurd h.1.1
-region_row at size align e (w ∷ a ∷ []) h = absurd h.1.1.1
-region_row at size align e (w ∷ a ∷ b ∷ []) h = absurd h.1.1.1.1
-region_row at size align e (w ∷ a ∷ b ∷ c ∷ []) h = absurd h.1.1.1.1.1
-region_row at size align e (w ∷ a ∷ b ∷ c ∷ d ∷ []) h = absurd h.1.1.1.1.1.1
-region_row at size align e (w ∷ a ∷ b ∷ c ∷ d ∷ f ∷ row) h =
-    let words = h.1 in
-    let below = words.1.1.1.1.1.1 in
-    let end = mark_row below.1 below.4 in
-    record {
-      w = w;
-      a = a;
-      b = b;
-      c = c;
-      d = d;
-      f = f;
-      z = end.0;
-      inner = below.0;
-      is = ap (λ r. w ∷ a ∷ b ∷ c ∷ d ∷ f ∷ r) (below.2 ∙ ap (λ r. below.0 ++ r) end.1);
-      place = h.0;
-      word_is = words.0;
-      open_is = words.1.0;
-      size_is = words.1.1.0;
-      comma_is = words.1.1.1.0;
-      align_is = words.1.1.1.1.0;
-      next_is = words.1.1.1.1.1.0;
-      close_is = end.2;
-      spelled = below.3;
-    }
-
-abbrev Same : Tree → Tree → (back back' : List Placed) → Type 0
-Same e e' back back' = (e ≡ e') × (back ≡ back')
-
--- the first token and what stands behind it
 heads : (w w' : Placed) (row row' : List Placed) → w ∷ row ≡ w' ∷ row' → (w ≡ w') × (row ≡ row')
 heads w w' row row' e = (cc, cc)
 
--- two words at the front
-other_word : {A : Type 0} (w w' : Placed) (row row' : List Placed) (m m' : Meaning) → w ∷ row ≡ w' ∷ row' → w.meaning ≡ m → w'.meaning ≡ m' → (m ≡ m' → ⊥) → A
-other_word w w' row row' m m' e is is' differ = absurd (differ (sym is ∙ ap (λ (t : Placed). t.meaning) (heads w w' row row' e).0 ∙ is'))
+-- two rows that go on to one have one first token
+both : (m m' : Meaning) (R R' : List Placed → Type 0) (row row' back back' : List Placed) → (m then R) row → (m' then R') row' → row ++ back ≡ row' ++ back'
+    → (m ≡ m') × (rest rest' : List Placed) × R rest × R' rest' × (rest ++ back ≡ rest' ++ back')
+both m m' R R' [] row' back back' h h' e = absurd h
+both m m' R R' (t ∷ ts) [] back back' h h' e = absurd h'
+both m m' R R' (t ∷ ts) (t' ∷ ts') back back' h h' e =
+    let parts = heads t t' (ts ++ back) (ts' ++ back') e in
+    (sym h.0 ∙ ap (λ (t : Placed). t.meaning) parts.0 ∙ h'.0, ts, ts', h.1, h'.1, parts.1)
 
-null_unique : (at : ℕ) (e' : Tree) (front front' back back' : List Placed) → Spells (null at) front → Spells e' front' → front ++ back ≡ front' ++ back' → Same (null at) e' back back'
-null_unique at (null at') front front' back back' h h' e =
-    let r = word_row at (word Null) front h.0 h.1 in
-    let r' = word_row at' (word Null) front' h'.0 h'.1 in
-    let both : r.w ∷ back ≡ r'.w ∷ back' = ap (λ (x : List Placed). x ++ back) (sym r.is) ∙ e ∙ ap (λ (x : List Placed). x ++ back') r'.is in
-    let parts = heads r.w r'.w back back' both in
-    (ap null (sym r.place ∙ ap (λ (t : Placed). t.at) parts.0 ∙ r'.place), parts.1)
-null_unique at (mem at') front front' back back' h h' e =
-    let r = word_row at (word Null) front h.0 h.1 in
-    let r' = word_row at' (word Mem) front' h'.0 h'.1 in
-    let both : r.w ∷ back ≡ r'.w ∷ back' = ap (λ (x : List Placed). x ++ back) (sym r.is) ∙ e ∙ ap (λ (x : List Placed). x ++ back') r'.is in
-    other_word r.w r'.w back back' (word Null) (word Mem) both r.meaning r'.meaning (λ e. cc)
-null_unique at (region at' size align e') front front' back back' h h' e =
-    let r = word_row at (word Null) front h.0 h.1 in
-    let r' = region_row at' size align e' front' h' in
-    let both : r.w ∷ back ≡ r'.w ∷ (r'.a ∷ r'.b ∷ r'.c ∷ r'.d ∷ r'.f ∷ (r'.inner ++ r'.z ∷ [])) ++ back' = ap (λ (x : List Placed). x ++ back) (sym r.is) ∙ e ∙ ap (λ (x : List Placed). x ++ back') r'.is in
-    other_word r.w r'.w back ((r'.a ∷ r'.b ∷ r'.c ∷ r'.d ∷ r'.f ∷ (r'.inner ++ r'.z ∷ [])) ++ back') (word Null) (word Region) both r.meaning r'.word_is (λ e. cc)
-null_unique at (bitmap at' block count e') front front' back back' h h' e = absurd h'
-null_unique at (kr at' size e') front front' back back' h h' e = absurd h'
-null_unique at (freelist at' bounds e') front front' back back' h h' e = absurd h'
-null_unique at (quantize at' kind e') front front' back back' h h' e = absurd h'
-null_unique at (stats at' e') front front' back back' h h' e = absurd h'
-null_unique at (affix at' prefix suffix e') front front' back back' h h' e = absurd h'
-null_unique at (segregate at' es e') front front' back back' h h' e = absurd h'
-null_unique at (buckets at' least great'est step e') front front' back back' h h' e = absurd h'
-null_unique at (fallback at' p f) front front' back back' h h' e = absurd h'
-null_unique at (list at' count e') front front' back back' h h' e = absurd h'
+one_place : (at at' : ℕ) (row row' back back' : List Placed) → BeginsAt at row → BeginsAt at' row' → row ++ back ≡ row' ++ back' → at ≡ at'
+one_place at at' [] row' back back' h h' e = absurd h
+one_place at at' (t ∷ ts) [] back back' h h' e = absurd h'
+one_place at at' (t ∷ ts) (t' ∷ ts') back back' h h' e = sym h ∙ ap (λ (t : Placed). t.at) (heads t t' (ts ++ back) (ts' ++ back') e).0 ∙ h'
 
-mem_unique : (at : ℕ) (e' : Tree) (front front' back back' : List Placed) → Spells (mem at) front → Spells e' front' → front ++ back ≡ front' ++ back' → Same (mem at) e' back back'
-mem_unique at (null at') front front' back back' h h' e =
-    let r = word_row at (word Mem) front h.0 h.1 in
-    let r' = word_row at' (word Null) front' h'.0 h'.1 in
-    let both : r.w ∷ back ≡ r'.w ∷ back' = ap (λ (x : List Placed). x ++ back) (sym r.is) ∙ e ∙ ap (λ (x : List Placed). x ++ back') r'.is in
-    other_word r.w r'.w back back' (word Mem) (word Null) both r.meaning r'.meaning (λ e. cc)
-mem_unique at (mem at') front front' back back' h h' e =
-    let r = word_row at (word Mem) front h.0 h.1 in
-    let r' = word_row at' (word Mem) front' h'.0 h'.1 in
-    let both : r.w ∷ back ≡ r'.w ∷ back' = ap (λ (x : List Placed). x ++ back) (sym r.is) ∙ e ∙ ap (λ (x : List Placed). x ++ back') r'.is in
-    let parts = heads r.w r'.w back back' both in
-    (ap mem (sym r.place ∙ ap (λ (t : Placed). t.at) parts.0 ∙ r'.place), parts.1)
-mem_unique at (region at' size align e') front front' back back' h h' e =
-    let r = word_row at (word Mem) front h.0 h.1 in
-    let r' = region_row at' size align e' front' h' in
-    let both : r.w ∷ back ≡ r'.w ∷ (r'.a ∷ r'.b ∷ r'.c ∷ r'.d ∷ r'.f ∷ (r'.inner ++ r'.z ∷ [])) ++ back' = ap (λ (x : List Placed). x ++ back) (sym r.is) ∙ e ∙ ap (λ (x : List Placed). x ++ back') r'.is in
-    other_word r.w r'.w back ((r'.a ∷ r'.b ∷ r'.c ∷ r'.d ∷ r'.f ∷ (r'.inner ++ r'.z ∷ [])) ++ back') (word Mem) (word Region) both r.meaning r'.word_is (λ e. cc)
-mem_unique at (bitmap at' block count e') front front' back back' h h' e = absurd h'
-mem_unique at (kr at' size e') front front' back back' h h' e = absurd h'
-mem_unique at (freelist at' bounds e') front front' back back' h h' e = absurd h'
-mem_unique at (quantize at' kind e') front front' back back' h h' e = absurd h'
-mem_unique at (stats at' e') front front' back back' h h' e = absurd h'
-mem_unique at (affix at' prefix suffix e') front front' back back' h h' e = absurd h'
-mem_unique at (segregate at' es e') front front' back back' h h' e = absurd h'
-mem_unique at (buckets at' least great'est step e') front front' back back' h h' e = absurd h'
-mem_unique at (fallback at' p f) front front' back back' h h' e = absurd h'
-mem_unique at (list at' count e') front front' back back' h h' e = absurd h'
+nothing_more : (rest rest' back back' : List Placed) → rest ≡ [] → rest' ≡ [] → rest ++ back ≡ rest' ++ back' → back ≡ back'
+nothing_more rest rest' back back' h h' e = ap (λ (r : List Placed). r ++ back) (sym h) ∙ e ∙ ap (λ (r : List Placed). r ++ back') h'
 
-number_is : (m n : ℕ) (t t' : Placed) → t ≡ t' → t.meaning ≡ number m → t'.meaning ≡ number n → m ≡ n
-number_is m n t t' e is is' = let both : number m ≡ number n = sym is ∙ ap (λ (t : Placed). t.meaning) e ∙ is' in cc
+regroup : (front rest back front' rest' back' row row' : List Placed) → row ≡ front ++ rest → row' ≡ front' ++ rest' → row ++ back ≡ row' ++ back' → front ++ (rest ++ back) ≡ front' ++ (rest' ++ back')
+regroup front rest back front' rest' back' row row' h h' e =
+    sym (append_assoc front rest back) ∙ ap (λ (r : List Placed). r ++ back) (sym h) ∙ e ∙ ap (λ (r : List Placed). r ++ back') h' ∙ append_assoc front' rest' back'
+
+-- nothing is spelled where nothing may come
+pub nothing_fills : (args : Args) (s : Option Signature) (row : List Placed) → s ≡ None → Fills args s row → ⊥
+nothing_fills (last e) s row is h = absurd (differ (sym h.0 ∙ ap ends is))
+  where
+    differ : true ≡ false → ⊥
+    differ e = cc
+nothing_fills (number n args) s [] is h = h
+nothing_fills (number n args) s (t ∷ []) is h = h.1
+nothing_fills (number n args) s (t ∷ u ∷ row) is h = nothing_fills args (after_number s) row (ap after_number is) h.1.1
+nothing_fills (choice c args) s [] is h = h
+nothing_fills (choice c args) s (t ∷ []) is h = h.1
+nothing_fills (choice c args) s (t ∷ u ∷ row) is h = nothing_fills args (after_choice c s) row (ap (after_choice c) is) h.1.1
+nothing_fills (layer e args) s row is h =
+    let b = behind (mark Comma) (Fills args (after_layer s)) h.1 h.4 in
+    nothing_fills args (after_layer s) b.1 (ap after_layer is) b.4
+
+-- ---- the first token tells what comes
+
+code : Meaning → ℕ
+code (meaning.number n) = 0
+code (word (Named k)) = 1
+code (word (Chosen c)) = 2
+code (word Unknown) = 3
+code (mark m) = 3
+code stray = 3
+
+args_code : Args → ℕ
+args_code (number n args) = 0
+args_code (last e) = 1
+args_code (layer e args) = 1
+args_code (choice c args) = 2
+
+first_code : List Placed → ℕ
+first_code [] = 4
+first_code (t ∷ ts) = code t.meaning
+
+then_code : (m : Meaning) (R : List Placed → Type 0) (row back : List Placed) → (m then R) row → first_code (row ++ back) ≡ code m
+unfolding first_code
+then_code m R [] back h = absurd h
+then_code m R (t ∷ ts) back h = ap code h.0
+
+spells_code : (e : Tree) (row back : List Placed) → Spells e row → first_code (row ++ back) ≡ 1
+unfolding code
+spells_code (leaf at k) row back h = then_code (word (Named k)) Ends row back h.2
+spells_code (node at k args) row back h = then_code (word (Named k)) _ row back h.1
+
+front_code : (e : Tree) (row front rest back : List Placed) → row ≡ front ++ rest → Spells e front → first_code (row ++ back) ≡ 1
+front_code e row front rest back is h = ap (λ (r : List Placed). first_code (r ++ back)) is ∙ ap first_code (append_assoc front rest back) ∙ spells_code e front (rest ++ back) h
+
+fills_code : (args : Args) (s : Option Signature) (row back : List Placed) → Fills args s row → first_code (row ++ back) ≡ args_code args
+unfolding code args_code
+fills_code (last e) s row back h = front_code e row h.1.0 h.1.1 back h.1.2 h.1.3
+fills_code (number n args) s row back h = then_code (meaning.number n) _ row back h
+fills_code (choice c args) s row back h = then_code (word (Chosen c)) _ row back h
+fills_code (layer e args) s row back h = front_code e row h.0 h.1 back h.2 h.3
+
+one_code : (args args' : Args) (s s' : Option Signature) (row row' back back' : List Placed) → Fills args s row → Fills args' s' row' → row ++ back ≡ row' ++ back' → args_code args ≡ args_code args'
+one_code args args' s s' row row' back back' h h' e = sym (fills_code args s row back h) ∙ ap first_code e ∙ fills_code args' s' row' back' h'
+
+-- ---- one tree
 
 abbrev Unique : Tree → Type 0
-Unique e = (e' : Tree) (front front' back back' : List Placed) → Spells e front → Spells e' front' → front ++ back ≡ front' ++ back' → Same e e' back back'
+Unique e = (e' : Tree) (row row' back back' : List Placed) → Spells e row → Spells e' row' → row ++ back ≡ row' ++ back' → (e ≡ e') × (back ≡ back')
 
-region_unique : (at size align : ℕ) (e : Tree) → Unique e → Unique (region at size align e)
-region_unique at size align e below (null at') front front' back back' h h' eq =
-    let r = region_row at size align e front h in
-    let r' = word_row at' (word Null) front' h'.0 h'.1 in
-    let both : r.w ∷ (r.a ∷ r.b ∷ r.c ∷ r.d ∷ r.f ∷ (r.inner ++ r.z ∷ [])) ++ back ≡ r'.w ∷ back' = ap (λ (x : List Placed). x ++ back) (sym r.is) ∙ eq ∙ ap (λ (x : List Placed). x ++ back') r'.is in
-    other_word r.w r'.w ((r.a ∷ r.b ∷ r.c ∷ r.d ∷ r.f ∷ (r.inner ++ r.z ∷ [])) ++ back) back' (word Region) (word Null) both r.word_is r'.meaning (λ e. cc)
-region_unique at size align e below (mem at') front front' back back' h h' eq =
-    let r = region_row at size align e front h in
-    let r' = word_row at' (word Mem) front' h'.0 h'.1 in
-    let both : r.w ∷ (r.a ∷ r.b ∷ r.c ∷ r.d ∷ r.f ∷ (r.inner ++ r.z ∷ [])) ++ back ≡ r'.w ∷ back' = ap (λ (x : List Placed). x ++ back) (sym r.is) ∙ eq ∙ ap (λ (x : List Placed). x ++ back') r'.is in
-    other_word r.w r'.w ((r.a ∷ r.b ∷ r.c ∷ r.d ∷ r.f ∷ (r.inner ++ r.z ∷ [])) ++ back) back' (word Region) (word Mem) both r.word_is r'.meaning (λ e. cc)
-region_unique at size align e below (region at' size' align' e') front front' back back' h h' eq =
-    let r = region_row at size align e front h in
-    let r' = region_row at' size' align' e' front' h' in
-    let both : r.w ∷ r.a ∷ r.b ∷ r.c ∷ r.d ∷ r.f ∷ (r.inner ++ r.z ∷ []) ++ back ≡ r'.w ∷ r'.a ∷ r'.b ∷ r'.c ∷ r'.d ∷ r'.f ∷ (r'.inner ++ r'.z ∷ []) ++ back' = ap (λ (x : List Placed). x ++ back) (sym r.is) ∙ eq ∙ ap (λ (x : List Placed). x ++ back') r'.is in
-    let w-is : r.w ≡ r'.w = cc in
-    let b-is : r.b ≡ r'.b = cc in
-    let d-is : r.d ≡ r'.d = cc in
-    let rows : (r.inner ++ r.z ∷ []) ++ back ≡ (r'.inner ++ r'.z ∷ []) ++ back' = cc in
-    let regrouped : r.inner ++ (r.z ∷ back) ≡ r'.inner ++ (r'.z ∷ back') = sym (append_assoc r.inner (r.z ∷ []) back) ∙ rows ∙ append_assoc r'.inner (r'.z ∷ []) back' in
-    let same = below e' r.inner r'.inner (r.z ∷ back) (r'.z ∷ back') r.spelled r'.spelled regrouped in
-    let at-is : at ≡ at' = sym r.place ∙ ap (λ (t : Placed). t.at) w-is ∙ r'.place in
-    let size-is = number_is size size' r.b r'.b b-is r.size_is r'.size_is in
-    let align-is = number_is align align' r.d r'.d d-is r.align_is r'.align_is in
-    ((λ i. region (at-is i) (size-is i) (align-is i) (same.0 i)), (heads r.z r'.z back back' same.1).1)
-region_unique at size align e below (bitmap at' block' count' e') front front' back back' h h' eq = absurd h'
-region_unique at size align e below (kr at' size' e') front front' back back' h h' eq = absurd h'
-region_unique at size align e below (freelist at' bounds' e') front front' back back' h h' eq = absurd h'
-region_unique at size align e below (quantize at' kind' e') front front' back back' h h' eq = absurd h'
-region_unique at size align e below (stats at' e') front front' back back' h h' eq = absurd h'
-region_unique at size align e below (affix at' prefix' suffix' e') front front' back back' h h' eq = absurd h'
-region_unique at size align e below (segregate at' es' e') front front' back back' h h' eq = absurd h'
-region_unique at size align e below (buckets at' least' great'est' step' e') front front' back back' h h' eq = absurd h'
-region_unique at size align e below (fallback at' p' f') front front' back back' h h' eq = absurd h'
-region_unique at size align e below (list at' count' e') front front' back back' h h' eq = absurd h'
+abbrev UniqueArgs : Args → Type 0
+UniqueArgs args = (args' : Args) (s : Option Signature) (row row' back back' : List Placed) → Fills args s row → Fills args' s row' → row ++ back ≡ row' ++ back' → (args ≡ args') × (back ≡ back')
 
-pub spells_unique : (e : Tree) → Unique e
-spells_unique (null at) e' front front' back back' h h' eq = null_unique at e' front front' back back' h h' eq
-spells_unique (mem at) e' front front' back back' h h' eq = mem_unique at e' front front' back back' h h' eq
-spells_unique (region at size align e) e' front front' back back' h h' eq = region_unique at size align e (spells_unique e) e' front front' back back' h h' eq
-spells_unique (bitmap at block count e) e' front front' back back' h h' eq = absurd h
-spells_unique (kr at size e) e' front front' back back' h h' eq = absurd h
-spells_unique (freelist at bounds e) e' front front' back back' h h' eq = absurd h
-spells_unique (quantize at kind e) e' front front' back back' h h' eq = absurd h
-spells_unique (stats at e) e' front front' back back' h h' eq = absurd h
-spells_unique (affix at prefix suffix e) e' front front' back back' h h' eq = absurd h
-spells_unique (segregate at es e) e' front front' back back' h h' eq = absurd h
-spells_unique (buckets at least greatest step e) e' front front' back back' h h' eq = absurd h
-spells_unique (fallback at p f) e' front front' back back' h h' eq = absurd h
-spells_unique (list at count e) e' front front' back back' h h' eq = absurd h
+named_is : (k k' : Name) → word (Named k) ≡ word (Named k') → k ≡ k'
+named_is k k' e = cc
+
+number_is : (n n' : ℕ) → meaning.number n ≡ meaning.number n' → n ≡ n'
+number_is n n' e = cc
+
+chosen_is : (c c' : Choice) → word (Chosen c) ≡ word (Chosen c') → c ≡ c'
+chosen_is c c' e = cc
+
+comma_close : mark Comma ≡ mark Close → ⊥
+comma_close e = cc
+
+mutual
+  unfolding args_code
+
+  pub spells_unique : (e : Tree) → Unique e
+  spells_unique (leaf at k) (leaf at' k') row row' back back' h h' eq =
+      let w = both (word (Named k)) (word (Named k')) Ends Ends row row' back back' h.2 h'.2 eq in
+      let place = one_place at at' row row' back back' h.0 h'.0 eq in
+      let same = named_is k k' w.0 in
+      ((λ i. leaf (place i) (same i)), nothing_more w.1 w.2 back back' w.3 w.4 w.5)
+  spells_unique (leaf at k) (node at' k' args') row row' back back' h h' eq =
+      let w = both (word (Named k)) (word (Named k')) Ends (mark Open then Fills args' (inner (takes k'))) row row' back back' h.2 h'.1 eq in
+      let b = behind (mark Open) (Fills args' (inner (takes k'))) w.2 w.4 in
+      absurd (nothing_fills args' (inner (takes k')) b.1 (ap (λ k. inner (takes k)) (sym (named_is k k' w.0)) ∙ ap inner h.1) b.4)
+  spells_unique (node at k args) (leaf at' k') row row' back back' h h' eq =
+      let w = both (word (Named k)) (word (Named k')) (mark Open then Fills args (inner (takes k))) Ends row row' back back' h.1 h'.2 eq in
+      let b = behind (mark Open) (Fills args (inner (takes k))) w.1 w.3 in
+      absurd (nothing_fills args (inner (takes k)) b.1 (ap (λ k. inner (takes k)) (named_is k k' w.0) ∙ ap inner h'.1) b.4)
+  spells_unique (node at k args) (node at' k' args') row row' back back' h h' eq =
+      let w = both (word (Named k)) (word (Named k')) (mark Open then Fills args (inner (takes k))) (mark Open then Fills args' (inner (takes k'))) row row' back back' h.1 h'.1 eq in
+      let o = both (mark Open) (mark Open) (Fills args (inner (takes k))) (Fills args' (inner (takes k'))) w.1 w.2 back back' w.3 w.4 w.5 in
+      let place = one_place at at' row row' back back' h.0 h'.0 eq in
+      let same = named_is k k' w.0 in
+      let inner = fills_unique args args' (inner (takes k)) o.1 o.2 back back' o.3 (subst (λ (k : Name). Fills args' (inner (takes k)) o.2) (sym same) o.4) o.5 in
+      ((λ i. node (place i) (same i) (inner.0 i)), inner.1)
+
+  pub fills_unique : (args : Args) → UniqueArgs args
+  fills_unique (last e) (last e') s row row' back back' h h' eq =
+      let below = spells_unique e e' h.1.0 h'.1.0 (h.1.1 ++ back) (h'.1.1 ++ back') h.1.3 h'.1.3 (regroup h.1.0 h.1.1 back h'.1.0 h'.1.1 back' row row' h.1.2 h'.1.2 eq) in
+      let z = both (mark Close) (mark Close) Ends Ends h.1.1 h'.1.1 back back' h.1.4 h'.1.4 below.1 in
+      (ap last below.0, nothing_more z.1 z.2 back back' z.3 z.4 z.5)
+  fills_unique (last e) (layer e' args') s row row' back back' h h' eq =
+      let below = spells_unique e e' h.1.0 h'.0 (h.1.1 ++ back) (h'.1 ++ back') h.1.3 h'.3 (regroup h.1.0 h.1.1 back h'.0 h'.1 back' row row' h.1.2 h'.2 eq) in
+      absurd (comma_close (sym (both (mark Close) (mark Comma) Ends (Fills args' (after_layer s)) h.1.1 h'.1 back back' h.1.4 h'.4 below.1).0))
+  fills_unique (layer e args) (last e') s row row' back back' h h' eq =
+      let below = spells_unique e e' h.0 h'.1.0 (h.1 ++ back) (h'.1.1 ++ back') h.3 h'.1.3 (regroup h.0 h.1 back h'.1.0 h'.1.1 back' row row' h.2 h'.1.2 eq) in
+      absurd (comma_close (both (mark Comma) (mark Close) (Fills args (after_layer s)) Ends h.1 h'.1.1 back back' h.4 h'.1.4 below.1).0)
+  fills_unique (layer e args) (layer e' args') s row row' back back' h h' eq =
+      let below = spells_unique e e' h.0 h'.0 (h.1 ++ back) (h'.1 ++ back') h.3 h'.3 (regroup h.0 h.1 back h'.0 h'.1 back' row row' h.2 h'.2 eq) in
+      let c = both (mark Comma) (mark Comma) (Fills args (after_layer s)) (Fills args' (after_layer s)) h.1 h'.1 back back' h.4 h'.4 below.1 in
+      let more = fills_unique args args' (after_layer s) c.1 c.2 back back' c.3 c.4 c.5 in
+      ((λ i. layer (below.0 i) (more.0 i)), more.1)
+  fills_unique (number n args) (number n' args') s row row' back back' h h' eq =
+      let t = both (meaning.number n) (meaning.number n') (mark Comma then Fills args (after_number s)) (mark Comma then Fills args' (after_number s)) row row' back back' h h' eq in
+      let c = both (mark Comma) (mark Comma) (Fills args (after_number s)) (Fills args' (after_number s)) t.1 t.2 back back' t.3 t.4 t.5 in
+      let more = fills_unique args args' (after_number s) c.1 c.2 back back' c.3 c.4 c.5 in
+      let same = number_is n n' t.0 in
+      ((λ i. number (same i) (more.0 i)), more.1)
+  fills_unique (choice n args) (choice n' args') s row row' back back' h h' eq =
+      let t = both (word (Chosen n)) (word (Chosen n')) (mark Comma then Fills args (after_choice n s)) (mark Comma then Fills args' (after_choice n' s)) row row' back back' h h' eq in
+      let same = chosen_is n n' t.0 in
+      let c = both (mark Comma) (mark Comma) (Fills args (after_choice n s)) (Fills args' (after_choice n' s)) t.1 t.2 back back' t.3 t.4 t.5 in
+      let more = fills_unique args args' (after_choice n s) c.1 c.2 back back' c.3 (subst (λ (d : Choice). Fills args' (after_choice d s) c.2) (sym same) c.4) c.5 in
+      ((λ i. choice (same i) (more.0 i)), more.1)
+  fills_unique args args' s row row' back back' h h' eq = let e = one_code args args' s s row row' back back' h h' eq in absurd cc

@@ -2,38 +2,36 @@
 use Rattle.std.proofs.Common.{◌≡◌, ℕ, suc, ◌+◌, ◌≤◌, Bool, true, false, cond, List, [], ◌∷◌, length, map, Option, Some, None, Result, Ok, Err, refl, sym, ◌∙◌, ap, subst, inl, inr, ◌⊎◌, arith, append-nil}
 use Rattle.std.specs.Prelude.{IfOk, IfErr}
 use Rattle.std.proofs.lemmas.Bool.{lt-leb}
+use Rattle.std.proofs.lemmas.List.{length-map}
 use Rattle.expr_reader.specs.declared.fault.ExprFault.{ExprFault}
 use Rattle.expr_reader.specs.declared.fault.ExprFault.TheVariants.{Syntax, NumberTooLarge, TooDeep, BadParameter, NeedsAlignment, NoMemory}
 use Rattle.expr_reader.specs.declared.token.Token.{Token}
 use Rattle.expr_reader.specs.declared.tree.Expr.{Expr}
 use Rattle.expr_reader.specs.Tokens.{Placed, tokens}
-use Rattle.expr_reader.specs.Trees.{Tree, tree_of, null, mem, region, bitmap, kr, freelist, quantize, stats, affix, segregate, buckets, fallback, list}
-use Rattle.expr_reader.specs.Grammar.{Spells, Fits, depth}
-use Rattle.expr_reader.specs.Flaws.{flaws, first_told, first_of_two, goes_before}
+use Rattle.expr_reader.specs.Trees.{Tree, tree_of, leaf, node, Args, last, number, choice, layer}
+use Rattle.expr_reader.specs.declared.signature.Signature.{Signature}
+use Rattle.expr_reader.specs.Signatures.{takes, inner, after_number, after_choice, after_layer}
+use Rattle.expr_reader.specs.Grammar.{Spells, Fits, FitsIn, depth, greatest_depth}
+use Rattle.expr_reader.specs.Flaws.{flaws, first_told, first_of_two, goes_before, starts, size}
 use Rattle.expr_reader.specs.Faults.{most_layers, FirstFault}
 use Rattle.expr_reader.specs.Answers.{Reads, IsAccepted, HasFault, IsReadAs, EachTextIsReadOnce, IsFaultOrNoMemory, FailsWith, Gives}
-use Rattle.expr_reader.specs.Descent.{Found, ◌>>=◌, seen, tree_at, ending, whole_at, judged, answer_to, Answers}
-use Rattle.expr_reader.proofs.Machine.{tree, go, finish, go_tree, Unopposed}
-use Rattle.expr_reader.proofs.Agreeing.{large, deep, fits-large, TreeGood, tree_outcome}
+use Rattle.expr_reader.specs.Descent.{◌>>=◌, seen, tree_at, ending, whole_at, judged, answer_to, Answers}
+use Rattle.expr_reader.proofs.Machine.{tree, go, finish, go_tree, Unopposed, UnopposedIn}
+use Rattle.expr_reader.proofs.Agreeing.{fits-large, spells_length, TreeGood, tree_outcome}
 use Rattle.expr_reader.proofs.Unique.{spells_unique}
-use Rattle.expr_reader.proofs.Firsts.{first_state, finds, is_found}
+use Rattle.expr_reader.proofs.Firsts.{large, deep, first_state, finds, is_found}
 
 -- a tree within the limits meets no objection
-unopposed : (e : Tree) (above : ℕ) → Fits e → above + depth e ≤ most_layers → Unopposed large deep e above
-unopposed (null at) above fits low = tt
-unopposed (mem at) above fits low = tt
-unopposed (region at size align e) above fits low =
-    (lt-leb most_layers above (omega arith), fits-large size fits.0, fits-large align fits.1, unopposed e (suc above) fits.2 (omega arith))
-unopposed (bitmap at block count e) above fits low = absurd fits
-unopposed (kr at size e) above fits low = absurd fits
-unopposed (freelist at bounds e) above fits low = absurd fits
-unopposed (quantize at kind e) above fits low = absurd fits
-unopposed (stats at e) above fits low = absurd fits
-unopposed (affix at prefix suffix e) above fits low = absurd fits
-unopposed (segregate at es e) above fits low = absurd fits
-unopposed (buckets at least greatest step e) above fits low = absurd fits
-unopposed (fallback at p f) above fits low = absurd fits
-unopposed (list at count e) above fits low = absurd fits
+mutual
+  unopposed : (e : Tree) (above : ℕ) → Fits e → above + depth e ≤ most_layers → Unopposed large deep e above
+  unopposed (leaf at k) above fits low = tt
+  unopposed (node at k args) above fits low = (lt-leb most_layers above (omega arith), unopposed_in args (inner (takes k)) (suc above) fits (omega arith))
+
+  unopposed_in : (args : Args) (s : Option Signature) (above : ℕ) → FitsIn args s → above + greatest_depth args ≤ most_layers → UnopposedIn large deep args above
+  unopposed_in (last e) s above fits low = unopposed e above fits.1 low
+  unopposed_in (number n args) s above fits low = (fits-large n fits.0, unopposed_in args (after_number s) above fits.1 low)
+  unopposed_in (choice c args) s above fits low = unopposed_in args (after_choice c s) above fits low
+  unopposed_in (layer e args) s above fits low = (unopposed e above fits.0 (omega (arith, low)), unopposed_in args (after_layer s) above fits.1 (omega (arith, low)))
 
 -- where the text reads, the machine finds no fault
 no_fault : (text : List ℕ) (e : Tree) → Reads text e → finish (length text) (go large deep (tree ∷ []) (tokens text)) ≡ None
@@ -50,33 +48,45 @@ reads_or_fault : {A : Type 0} (text : List ℕ) (e : Tree) (f : ExprFault) → R
 reads_or_fault text e f reads first = none_some f _ (no_fault text e reads) (is_found (tokens text) [] (tree ∷ []) (length text) f first_state first)
 
 -- what the descent over the whole text comes to
-abbrev Verdict : List ℕ → Result Found ExprFault → Type 0
+abbrev Verdict : List ℕ → Result Tree ExprFault → Type 0
 Verdict text answer =
-    ((x : Found) × (answer ≡ Ok x) × Reads text x.0 × (x.1 ≡ first_told (flaws x.0 (tokens text))))
+    ((e : Tree) × (answer ≡ Ok e) × Reads text e)
     ⊎ ((f : ExprFault) × (answer ≡ Err f) × FirstFault [] (tokens text) (length text) f)
 
-verdict_good : (text : List ℕ) (x : Found) (back : List Placed) (answer : Result (Found × List Token) ExprFault) → answer ≡ Ok (x, map seen back) → TreeGood most_layers (tokens text) x back
-    → go large deep (tree ∷ []) (tokens text) ≡ go large deep [] back → Verdict text (answer >>= λ found. ending found.0 found.1)
+verdict_good : (text : List ℕ) (x : Tree) (back : List Placed) (answer : Result (Tree × List Token) ExprFault) → answer ≡ Ok (x, map seen back) → TreeGood most_layers (tokens text) x back
+    → go large deep (tree ∷ []) (tokens text) ≡ go large deep [] back → Verdict text (answer >>= λ x. ending x.0 x.1)
 unfolding go
 verdict_good text x [] answer e good past =
     inl (
       x,
-      ap (λ (r : Result (Found × List Token) ExprFault). r >>= λ found. ending found.0 found.1) e,
-      record { spelled = subst (Spells x.0) (sym (good.parts ∙ append-nil good.front)) good.spelled; fits = good.fits; shallow = good.shallow },
-      good.told,
+      ap (λ (r : Result (Tree × List Token) ExprFault). r >>= λ x. ending x.0 x.1) e,
+      record { spelled = subst (Spells x) (sym (good.parts ∙ append-nil good.front)) good.spelled; fits = good.fits; shallow = good.shallow },
     )
 verdict_good text x (b ∷ bs) answer e good past =
     inr (
       Syntax b.at,
-      ap (λ (r : Result (Found × List Token) ExprFault). r >>= λ found. ending found.0 found.1) e,
+      ap (λ (r : Result (Tree × List Token) ExprFault). r >>= λ x. ending x.0 x.1) e,
       finds (tokens text) [] (tree ∷ []) (length text) (Syntax b.at) first_state (ap (finish (length text)) past),
     )
 
 verdict : (text : List ℕ) → Verdict text (whole_at (length text) (map seen (tokens text)))
 verdict text = elim (tree_outcome (length text) most_layers 0 refl (tokens text)) [
   | inl o ↦ verdict_good text o.0 o.1 (tree_at most_layers (length text) (map seen (tokens text))) o.2 o.3 (o.4 [] refl)
-  | inr o ↦ inr (o.0, ap (λ (r : Result (Found × List Token) ExprFault). r >>= λ found. ending found.0 found.1) o.1, finds (tokens text) [] (tree ∷ []) (length text) o.0 first_state (o.2 [] refl))
+  | inr o ↦ inr (o.0, ap (λ (r : Result (Tree × List Token) ExprFault). r >>= λ x. ending x.0 x.1) o.1, finds (tokens text) [] (tree ∷ []) (length text) o.0 first_state (o.2 [] refl))
 ]
+
+-- the tree that the descent finds in the whole row is what the text reads as
+pub found_reads : (text : List ℕ) (e : Tree) → whole_at (length text) (map seen (tokens text)) ≡ Ok e → Reads text e
+found_reads text e h = elim (verdict text) [
+  | inl v ↦ (let same : v.0 ≡ e = oks v.0 e (whole_at (length text) (map seen (tokens text))) v.1 h in subst (Reads text) same v.2)
+  | inr v ↦ ok_err e v.0 (whole_at (length text) (map seen (tokens text))) h v.1
+]
+  where
+    oks : (e t : Tree) (answer : Result Tree ExprFault) → answer ≡ Ok e → answer ≡ Ok t → e ≡ t
+    oks e t answer g h = cc
+
+    ok_err : {A : Type 0} (t : Tree) (f : ExprFault) (answer : Result Tree ExprFault) → answer ≡ Ok t → answer ≡ Err f → A
+    ok_err t f answer e h = absurd cc
 
 one_reading : (text : List ℕ) (e e' : Tree) → Reads text e → Reads text e' → e ≡ e'
 one_reading text e e' r r' = (spells_unique e e' (tokens text) (tokens text) [] [] r.spelled r'.spelled refl).0
@@ -95,10 +105,18 @@ told_none (f ∷ fs) e = absurd (two f (first_told fs) e)
 
 -- ---- what is answered is right
 
-judged_right : (text : List ℕ) (e : Tree) (o : Option ExprFault) (answer : Result Tree ExprFault) → Reads text e → o ≡ first_told (flaws e (tokens text)) → answer ≡ judged (e, o)
+-- the flaw that is told of a tree that the text spells
+abbrev flaw_in : List ℕ → Tree → Option ExprFault
+flaw_in text e = first_told (flaws None e (starts (tokens text)))
+
+-- what the text's tree is answered by
+abbrev answer_by : List ℕ → Result Tree ExprFault → Result Tree ExprFault
+answer_by text r = r >>= λ e. judged (flaw_in text e) e
+
+judged_right : (text : List ℕ) (e : Tree) (o : Option ExprFault) (answer : Result Tree ExprFault) → Reads text e → flaw_in text e ≡ o → answer ≡ judged o e
     → ((t : Tree) → answer ≡ Ok t → IsAccepted text t) × ((f : ExprFault) → answer ≡ Err f → HasFault text f)
 judged_right text e None answer reads told is =
-    (λ t h. let same : e ≡ t = oks e t (sym is ∙ h) in subst (IsAccepted text) same (record { reads = reads; flawless = told_none (flaws e (tokens text)) told }), λ f h. absurd (ok_err e f (sym is ∙ h)))
+    (λ t h. let same : e ≡ t = oks e t (sym is ∙ h) in subst (IsAccepted text) same (record { reads = reads; flawless = told_none (flaws None e (starts (tokens text))) (sym told) }), λ f h. absurd (ok_err e f (sym is ∙ h)))
   where
     oks : (e t : Tree) → (let a : Result Tree ExprFault = Ok e in a ≡ Ok t) → e ≡ t
     oks e t h = cc
@@ -106,7 +124,7 @@ judged_right text e None answer reads told is =
     ok_err : (e : Tree) (f : ExprFault) → (let a : Result Tree ExprFault = Ok e in a ≡ Err f) → ⊥
     ok_err e f h = cc
 judged_right text e (Some g) answer reads told is =
-    (λ t h. absurd (err_ok g t (sym is ∙ h)), λ f h. inr (e, reads, sym told ∙ ap Some (errs g f (sym is ∙ h))))
+    (λ t h. absurd (err_ok g t (sym is ∙ h)), λ f h. inr (e, reads, told ∙ ap Some (errs g f (sym is ∙ h))))
   where
     errs : (f g : ExprFault) → (let a : Result Tree ExprFault = Err f in a ≡ Err g) → f ≡ g
     errs f g h = cc
@@ -116,9 +134,9 @@ judged_right text e (Some g) answer reads told is =
 
 answers_right : (text : List ℕ) → ((t : Tree) → answer_to text ≡ Ok t → IsAccepted text t) × ((f : ExprFault) → answer_to text ≡ Err f → HasFault text f)
 answers_right text = elim (verdict text) [
-  | inl v ↦ judged_right text v.0.0 v.0.1 (answer_to text) v.2 v.3 (ap (λ (r : Result Found ExprFault). r >>= judged) v.1)
+  | inl v ↦ judged_right text v.0 (flaw_in text v.0) (answer_to text) v.2 refl (ap (answer_by text) v.1)
   | inr v ↦ (
-      let is : answer_to text ≡ Err v.0 = ap (λ (r : Result Found ExprFault). r >>= judged) v.1 in
+      let is : answer_to text ≡ Err v.0 = ap (answer_by text) v.1 in
       (λ t h. absurd (err_ok v.0 t (sym is ∙ h)), λ f h. inl (subst (FirstFault [] (tokens text) (length text)) (errs v.0 f (sym is ∙ h)) v.2)))
 ]
   where
@@ -133,28 +151,26 @@ answers_right text = elim (verdict text) [
 accepted_answered : (text : List ℕ) (t : Tree) → IsAccepted text t → answer_to text ≡ Ok t
 accepted_answered text t accepted = elim (verdict text) [
   | inl v ↦ (
-      let same : v.0.0 ≡ t = one_reading text v.0.0 t v.2 accepted.reads in
-      let flawless : v.0.1 ≡ None = v.3 ∙ ap (λ e. first_told (flaws e (tokens text))) same ∙ ap first_told accepted.flawless in
-      ap (λ (r : Result Found ExprFault). r >>= judged) v.1 ∙ (λ i. judged (v.0.0, flawless i)) ∙ ap Ok same)
+      let same : v.0 ≡ t = one_reading text v.0 t v.2 accepted.reads in
+      ap (answer_by text) v.1 ∙ ap (λ e. judged (flaw_in text e) e) same ∙ ap (λ fs. judged (first_told fs) t) accepted.flawless)
   | inr v ↦ reads_or_fault text t v.0 accepted.reads v.2
 ]
 
-flaw_answered : (text : List ℕ) (e : Tree) (f : ExprFault) → Reads text e → first_told (flaws e (tokens text)) ≡ Some f → answer_to text ≡ Err f
+flaw_answered : (text : List ℕ) (e : Tree) (f : ExprFault) → Reads text e → flaw_in text e ≡ Some f → answer_to text ≡ Err f
 flaw_answered text e f reads told = elim (verdict text) [
   | inl v ↦ (
-      let same : v.0.0 ≡ e = one_reading text v.0.0 e v.2 reads in
-      let flawed : v.0.1 ≡ Some f = v.3 ∙ ap (λ e. first_told (flaws e (tokens text))) same ∙ told in
-      ap (λ (r : Result Found ExprFault). r >>= judged) v.1 ∙ (λ i. judged (v.0.0, flawed i)))
+      let same : v.0 ≡ e = one_reading text v.0 e v.2 reads in
+      ap (answer_by text) v.1 ∙ ap (λ e. judged (flaw_in text e) e) same ∙ ap (λ o. judged o e) told)
   | inr v ↦ reads_or_fault text e v.0 reads v.2
 ]
 
 first_answered : (text : List ℕ) (f : ExprFault) → FirstFault [] (tokens text) (length text) f → answer_to text ≡ Err f
 first_answered text f first = elim (verdict text) [
-  | inl v ↦ reads_or_fault text v.0.0 f v.2 first
+  | inl v ↦ reads_or_fault text v.0 f v.2 first
   | inr v ↦ (
       let found = is_found (tokens text) [] (tree ∷ []) (length text) f first_state first in
       let found' = is_found (tokens text) [] (tree ∷ []) (length text) v.0 first_state v.2 in
-      ap (λ (r : Result Found ExprFault). r >>= judged) v.1 ∙ ap Err (somes v.0 f (sym found' ∙ found)))
+      ap (answer_by text) v.1 ∙ ap Err (somes v.0 f (sym found' ∙ found)))
 ]
   where
     somes : (f g : ExprFault) → (let o : Option ExprFault = Some f in o ≡ Some g) → f ≡ g
@@ -163,6 +179,35 @@ first_answered text f first = elim (verdict text) [
 fault_answered : (text : List ℕ) (f : ExprFault) → HasFault text f → answer_to text ≡ Err f
 fault_answered text f (inl first) = first_answered text f first
 fault_answered text f (inr flaw) = flaw_answered text flaw.0 f flaw.1 flaw.2
+
+-- ---- what the program does with a row of tokens
+
+-- the tree that the program finds in the row is what the text reads as
+pub row_reads : (text : List ℕ) (row : List Token) (e : Tree) → row ≡ map seen (tokens text) → whole_at (length text) row ≡ Ok e → Reads text e
+row_reads text row e is h = found_reads text e (ap (whole_at (length text)) (sym is) ∙ h)
+
+-- it takes no more tokens than the row has
+pub row_size : (text : List ℕ) (row : List Token) (e : Tree) → row ≡ map seen (tokens text) → Reads text e → size e ≤ length row
+row_size text row e is reads = omega (arith, spells_length e (tokens text) reads.spelled, length-map (tokens text) seen, ap length is)
+
+starts_seen : (ts : List Placed) → map (λ (t : Token). t.at) (map seen ts) ≡ starts ts
+starts_seen [] = refl
+starts_seen (t ∷ ts) = ap (λ ps. t.at ∷ ps) (starts_seen ts)
+
+-- the answer goes by the flaw that is told
+pub row_answer : (text : List ℕ) (row again : List Token) (e : Tree) (o : Option ExprFault) → row ≡ map seen (tokens text) → again ≡ map seen (tokens text) → whole_at (length text) row ≡ Ok e
+    → o ≡ first_told (flaws None e (map (λ (t : Token). t.at) again)) → answer_to text ≡ judged o e
+row_answer text row again e o is same h told =
+    ap (answer_by text) (ap (whole_at (length text)) (sym is) ∙ h)
+    ∙ ap (λ o. judged o e) (sym (told ∙ ap (λ (r : List Token). first_told (flaws None e (map (λ (t : Token). t.at) r))) same ∙ ap (λ ps. first_told (flaws None e ps)) (starts_seen (tokens text))))
+
+pub err_answers : (f : ExprFault) (r : Result Tree ExprFault) → r ≡ Err f → Answers tree_of (Err f) r
+err_answers (Syntax at) r h = h
+err_answers (NumberTooLarge at) r h = h
+err_answers (TooDeep at) r h = h
+err_answers (BadParameter at) r h = h
+err_answers (NeedsAlignment at) r h = h
+err_answers NoMemory r h = tt
 
 -- ---- the clauses of read
 

@@ -2,8 +2,11 @@
 use Rattle.std.specs.Prelude.{◌≡◌, ℕ, ◌-◌, ◌^◌, ◌≤◌, ◌⊎◌, Bool, true, false, IsTrue, List, [], ◌∷◌, ◌++◌, count_by}
 use Rattle.expr_reader.specs.declared.fault.ExprFault.{ExprFault}
 use Rattle.expr_reader.specs.declared.fault.ExprFault.TheVariants.{Syntax, NumberTooLarge, TooDeep, BadParameter, NeedsAlignment, NoMemory}
-use Rattle.expr_reader.specs.declared.token.Word.TheVariants.{Null, Mem, Region, Unknown}
+use Rattle.expr_reader.specs.declared.token.Word.TheVariants.{Named, Chosen, Unknown}
 use Rattle.expr_reader.specs.declared.token.Mark.TheVariants.{Open, Comma, Close}
+use Rattle.expr_reader.specs.declared.signature.Entry.{Entry}
+use Rattle.expr_reader.specs.declared.signature.Entry.TheVariants.{Missing, Alone, Takes}
+use Rattle.expr_reader.specs.Signatures.{takes}
 use Rattle.expr_reader.specs.Tokens.{Placed, Meaning, word, number, mark, stray}
 use Rattle.expr_reader.specs.Grammar.{IsSentence, IsViable}
 
@@ -14,16 +17,22 @@ IsTooLarge (number n) = 2 ^ 64 ≤ n
 IsTooLarge (mark m) = ⊥
 IsTooLarge stray = ⊥
 
+-- the word takes something between parentheses
+abbrev pub is_inner : Entry → Bool
+is_inner Missing = false
+is_inner Alone = false
+is_inner (Takes g) = true
+
 -- the word of a form that has layers below it
 abbrev pub is_layer : Meaning → Bool
-is_layer (word Null) = false
-is_layer (word Mem) = false
-is_layer (word Region) = true
+is_layer (word (Named k)) = is_inner (takes k)
+is_layer (word (Chosen c)) = false
 is_layer (word Unknown) = false
 is_layer (number n) = false
 is_layer (mark m) = false
 is_layer stray = false
 
+-- the parenthesis that closes
 abbrev pub is_close : Meaning → Bool
 is_close (word w) = false
 is_close (number n) = false

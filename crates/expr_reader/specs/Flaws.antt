@@ -1,47 +1,110 @@
 -- Flaws of an expression that reads: numbers that break their rule, and parents with too little alignment.
 -- Alignment goes by the numbers as they are written.
-use Rattle.std.specs.Prelude.{ℕ, zero, suc, Bool, ◌&&◌, ◌==◌, nat_le, nat_lt, if◌then◌else◌, min, List, [], ◌∷◌, drop, Option, Some, None}
-use Rattle.layer_rules.specs.Offering.{full_alignment, alignment_behind}
-use Rattle.layer_rules.specs.Proper.{is_between, is_power_of_two, size_bound}
+use Rattle.std.specs.Prelude.{ℕ, ◌+◌, Bool, ◌&&◌, ◌==◌, nat_le, nat_lt, if◌then◌else◌, min, List, [], ◌∷◌, ◌++◌, drop, map, Option, Some, None}
+use Rattle.layer_rules.specs.Offering.{full_alignment}
+use Rattle.size_round.specs.Sizes.{is_between, is_power_of_two, size_bound}
 use Rattle.space_core.specs.Cells.{cell_size}
 use Rattle.expr_reader.specs.declared.fault.ExprFault.{ExprFault}
 use Rattle.expr_reader.specs.declared.fault.ExprFault.TheVariants.{Syntax, NumberTooLarge, TooDeep, BadParameter, NeedsAlignment, NoMemory}
+use Rattle.expr_reader.specs.declared.token.Name.{Name}
+use Rattle.expr_reader.specs.declared.token.Name.TheVariants as name
+use Rattle.expr_reader.specs.declared.node.Head.{Head}
+use Rattle.expr_reader.specs.declared.node.Head.TheVariants.{Number, Chosen}
 use Rattle.expr_reader.specs.Tokens.{Placed}
-use Rattle.expr_reader.specs.Trees.{Tree, null, mem, region, bitmap, kr, freelist, quantize, stats, affix, segregate, buckets, fallback, list, Members, no_members, member, place_of}
+use Rattle.expr_reader.specs.Trees.{Tree, leaf, node, Args, last, number, choice, layer, place_of}
+
+-- the numbers, and the words in their place, in order
+abbrev pub heads : Args → List Head
+heads (last e) = []
+heads (number n args) = Number n ∷ heads args
+heads (choice c args) = Chosen c ∷ heads args
+heads (layer e args) = heads args
+
+-- ---- what is a word's own
+
+-- the alignment of a word that stands alone
+abbrev pub leaf_alignment : Name → ℕ
+leaf_alignment name.Null = full_alignment
+leaf_alignment k = cell_size
+
+-- the alignment of a layer, from its numbers and the least alignment below it
+abbrev pub layer_alignment : Name → List Head → (below : ℕ) → ℕ
+layer_alignment name.Region (Number size ∷ Number align ∷ []) below = align
+layer_alignment k hs below = below
+
+-- the alignment that a layer needs below it
+abbrev pub needs : Name → List Head → ℕ
+needs name.Region (Number size ∷ Number align ∷ []) = align
+needs k hs = 0
+
+-- what a region's size may be
+abbrev pub is_region_size : ℕ → Bool
+is_region_size size = is_between 1 size_bound size
+
+-- what its alignment may be
+abbrev pub is_region_alignment : ℕ → Bool
+is_region_alignment align = is_between 1 4096 align && is_power_of_two align
+
+-- Whether each number, and each word in place of numbers, keeps its rule, in order. What the layer above gives to a word in place of
+-- numbers is the second argument.
+abbrev pub rules : Name → (given : Option ℕ) → List Head → List Bool
+rules name.Region given (Number size ∷ Number align ∷ []) = is_region_size size ∷ is_region_alignment align ∷ []
+rules k given hs = []
+
+-- what a layer gives to a word in place of numbers directly below it: no layer gives anything yet
+abbrev pub gives : Name → List Head → Option ℕ
+gives k hs = None
+
+-- ---- all else goes by the signature
 
 -- the number of which each block's place is a multiple
 abbrev mutual
   pub alignment : Tree → ℕ
-  alignment (null at) = full_alignment
-  alignment (mem at) = cell_size
-  alignment (region at size align e) = align
-  alignment (bitmap at block count e) = 16
-  alignment (kr at size e) = 16
-  alignment (freelist at bounds e) = alignment e
-  alignment (quantize at kind e) = alignment e
-  alignment (stats at e) = alignment e
-  alignment (affix at prefix suffix e) = alignment_behind prefix (alignment e)
-  alignment (segregate at es e) = min (least_alignment es) (alignment e)
-  alignment (buckets at least greatest step e) = alignment e
-  alignment (fallback at p f) = min (alignment p) (alignment f)
-  alignment (list at count e) = alignment e
+  alignment (leaf at k) = leaf_alignment k
+  alignment (node at k args) = layer_alignment k (heads args) (least_alignment args)
 
-  pub least_alignment : Members → ℕ
-  least_alignment no_members = full_alignment
-  least_alignment (member threshold e es) = min (alignment e) (least_alignment es)
+  -- the least alignment of the layers
+  pub least_alignment : Args → ℕ
+  least_alignment (last e) = alignment e
+  least_alignment (number n args) = least_alignment args
+  least_alignment (choice c args) = least_alignment args
+  least_alignment (layer e args) = min (alignment e) (least_alignment args)
 
--- what a region's numbers may be
-abbrev pub is_region_size : ℕ → Bool
-is_region_size size = is_between 1 size_bound size
+-- the place of the first layer
+abbrev pub first_place : Args → ℕ
+first_place (last e) = place_of e
+first_place (number n args) = first_place args
+first_place (choice c args) = first_place args
+first_place (layer e args) = place_of e
 
-abbrev pub is_region_alignment : ℕ → Bool
-is_region_alignment align = is_between 1 4096 align && is_power_of_two align
+-- where the tokens of a row begin
+abbrev pub starts : List Placed → List ℕ
+starts row = map (λ t. t.at) row
 
--- the place of the token with this number in the row, and 0 where there is none
-abbrev pub place_at : List Placed → ℕ → ℕ
-place_at [] k = 0
-place_at (t ∷ ts) zero = t.at
-place_at (t ∷ ts) (suc k) = place_at ts k
+-- the first of some places, and 0 where there is none
+abbrev pub first_of : List ℕ → ℕ
+first_of [] = 0
+first_of (p ∷ ps) = p
+
+-- how many tokens spell the tree
+abbrev mutual
+  pub size : Tree → ℕ
+  size (leaf at k) = 1
+  size (node at k args) = size_in args + 2
+
+  -- how many tokens spell the arguments, with the parenthesis that closes
+  pub size_in : Args → ℕ
+  size_in (last e) = size e + 1
+  size_in (number n args) = size_in args + 2
+  size_in (choice c args) = size_in args + 2
+  size_in (layer e args) = size e + 1 + size_in args
+
+-- the places of the numbers, and of the words in their place, among those of the tokens that spell the arguments
+abbrev pub head_places : Args → List ℕ → List ℕ
+head_places (last e) ps = []
+head_places (number n args) ps = first_of ps ∷ head_places args (drop 2 ps)
+head_places (choice c args) ps = first_of ps ∷ head_places args (drop 2 ps)
+head_places (layer e args) ps = head_places args (drop (size e + 1) ps)
 
 -- this fault, where the rule is broken
 abbrev pub unless : Bool → ExprFault → Option ExprFault
@@ -52,25 +115,29 @@ abbrev pub with_first : Option ExprFault → List ExprFault → List ExprFault
 with_first None fs = fs
 with_first (Some f) fs = f ∷ fs
 
--- The flaws of a tree whose tokens the row begins with.
-abbrev pub flaws : Tree → List Placed → List ExprFault
-flaws (null at) row = []
-flaws (mem at) row = []
-flaws (region at size align e) row =
-    with_first (unless (is_region_size size) (BadParameter (place_at row 2)))
-    (with_first (unless (is_region_alignment align) (BadParameter (place_at row 4)))
-    (with_first (unless (nat_le align (alignment e)) (NeedsAlignment (place_of e)))
-    (flaws e (drop 6 row))))
-flaws (bitmap at block count e) row = []
-flaws (kr at size e) row = []
-flaws (freelist at bounds e) row = []
-flaws (quantize at kind e) row = []
-flaws (stats at e) row = []
-flaws (affix at prefix suffix e) row = []
-flaws (segregate at es e) row = []
-flaws (buckets at least greatest step e) row = []
-flaws (fallback at p f) row = []
-flaws (list at count e) row = []
+-- the faults of the rules that are broken, each at its place
+abbrev pub broken : List Bool → List ℕ → List ExprFault
+broken [] ps = []
+broken (is_kept ∷ more) ps = with_first (unless is_kept (BadParameter (first_of ps))) (broken more (drop 1 ps))
+
+-- the flaws of a layer itself
+abbrev pub layer_flaws : (given : Option ℕ) → Name → Args → List ℕ → List ExprFault
+layer_flaws given k args ps =
+    with_first (unless (nat_le (needs k (heads args)) (least_alignment args)) (NeedsAlignment (first_place args)))
+    (broken (rules k given (heads args)) (head_places args ps))
+
+-- The flaws of a tree whose tokens begin at these places, the first of them, below a layer that gives this.
+abbrev mutual
+  pub flaws : (given : Option ℕ) → Tree → List ℕ → List ExprFault
+  flaws given (leaf at k) ps = []
+  flaws given (node at k args) ps = layer_flaws given k args (drop 2 ps) ++ flaws_in (gives k (heads args)) args (drop 2 ps)
+
+  -- the flaws of the layers of some arguments, whose tokens begin at these places
+  pub flaws_in : (given : Option ℕ) → Args → List ℕ → List ExprFault
+  flaws_in given (last e) ps = flaws given e ps
+  flaws_in given (number n args) ps = flaws_in given args (drop 2 ps)
+  flaws_in given (choice c args) ps = flaws_in given args (drop 2 ps)
+  flaws_in given (layer e args) ps = flaws given e ps ++ flaws_in given args (drop (size e + 1) ps)
 
 -- the place of a fault
 abbrev pub fault_place : ExprFault → ℕ

@@ -1,9 +1,13 @@
--- The grammar: which tokens spell which tree. A form of the grammar is one line of Spells, and so far null, mem and region are.
-use Rattle.std.specs.Prelude.{◌≡◌, ℕ, suc, ◌^◌, ◌<◌, max, List, [], ◌∷◌, ◌++◌}
-use Rattle.expr_reader.specs.declared.token.Word.TheVariants.{Null, Mem, Region}
+-- The grammar: which tokens spell which tree, by the signatures of the words.
+use Rattle.std.specs.Prelude.{◌≡◌, ℕ, suc, ◌^◌, ◌<◌, max, true, List, [], ◌∷◌, ◌++◌, Option}
+use Rattle.expr_reader.specs.declared.token.Word.TheVariants.{Named, Chosen}
 use Rattle.expr_reader.specs.declared.token.Mark.TheVariants.{Open, Comma, Close}
-use Rattle.expr_reader.specs.Tokens.{Placed, Meaning, word, number, mark}
-use Rattle.expr_reader.specs.Trees.{Tree, null, mem, region, bitmap, kr, freelist, quantize, stats, affix, segregate, buckets, fallback, list, Members, no_members, member}
+use Rattle.expr_reader.specs.declared.signature.Signature.{Signature}
+use Rattle.expr_reader.specs.Tokens.{Placed, Meaning, word, mark}
+use Rattle.expr_reader.specs.Tokens as meaning
+use Rattle.expr_reader.specs.declared.signature.Entry.TheVariants.{Alone}
+use Rattle.expr_reader.specs.Signatures.{takes, inner, after_number, after_choice, after_layer, ends}
+use Rattle.expr_reader.specs.Trees.{Tree, leaf, node, Args, last, number, choice, layer}
 
 -- the row ends here
 abbrev pub Ends : List Placed → Type 0
@@ -26,22 +30,17 @@ BeginsAt at [] = ⊥
 BeginsAt at (t ∷ ts) = t.at ≡ at
 
 -- The row of tokens spells the tree.
-abbrev pub Spells : Tree → List Placed → Type 0
-Spells (null at) row = BeginsAt at row × (word Null then Ends) row
-Spells (mem at) row = BeginsAt at row × (word Mem then Ends) row
-Spells (region at size align e) row =
-    BeginsAt at row
-    × (word Region then mark Open then number size then mark Comma then number align then mark Comma then Spells e before mark Close then Ends) row
-Spells (bitmap at block count e) row = ⊥
-Spells (kr at size e) row = ⊥
-Spells (freelist at bounds e) row = ⊥
-Spells (quantize at kind e) row = ⊥
-Spells (stats at e) row = ⊥
-Spells (affix at prefix suffix e) row = ⊥
-Spells (segregate at es e) row = ⊥
-Spells (buckets at least greatest step e) row = ⊥
-Spells (fallback at p f) row = ⊥
-Spells (list at count e) row = ⊥
+abbrev mutual
+  pub Spells : Tree → List Placed → Type 0
+  Spells (leaf at k) row = BeginsAt at row × (takes k ≡ Alone) × (word (Named k) then Ends) row
+  Spells (node at k args) row = BeginsAt at row × (word (Named k) then mark Open then Fills args (inner (takes k))) row
+
+  -- The row spells what stands between parentheses, with the closing one, where this is to come.
+  pub Fills : Args → Option Signature → List Placed → Type 0
+  Fills (last e) s row = (ends s ≡ true) × (Spells e before mark Close then Ends) row
+  Fills (number n args) s row = (meaning.number n then mark Comma then Fills args (after_number s)) row
+  Fills (choice c args) s row = (word (Chosen c) then mark Comma then Fills args (after_choice c s)) row
+  Fills (layer e args) s row = (Spells e before mark Comma then Fills args (after_layer s)) row
 
 -- The row is a sentence of the grammar.
 abbrev pub IsSentence : List Placed → Type 0
@@ -51,39 +50,28 @@ IsSentence row = (e : Tree) × Spells e row
 abbrev pub IsViable : List Placed → Type 0
 IsViable row = (rest : List Placed) × IsSentence (row ++ rest)
 
--- Each number of the tree is one that a program's number holds. A tree with a form that isn't in the grammar doesn't fit.
-abbrev pub Fits : Tree → Type 0
-Fits (null at) = Unit {0}
-Fits (mem at) = Unit {0}
-Fits (region at size align e) = (size < 2 ^ 64) × (align < 2 ^ 64) × Fits e
-Fits (bitmap at block count e) = ⊥
-Fits (kr at size e) = ⊥
-Fits (freelist at bounds e) = ⊥
-Fits (quantize at kind e) = ⊥
-Fits (stats at e) = ⊥
-Fits (affix at prefix suffix e) = ⊥
-Fits (segregate at es e) = ⊥
-Fits (buckets at least greatest step e) = ⊥
-Fits (fallback at p f) = ⊥
-Fits (list at count e) = ⊥
+-- Each number of the tree is one that a program's number holds, and each word has what it takes.
+abbrev mutual
+  pub Fits : Tree → Type 0
+  Fits (leaf at k) = takes k ≡ Alone
+  Fits (node at k args) = FitsIn args (inner (takes k))
+
+  -- The arguments are what this takes, and fit.
+  pub FitsIn : Args → Option Signature → Type 0
+  FitsIn (last e) s = (ends s ≡ true) × Fits e
+  FitsIn (number n args) s = (n < 2 ^ 64) × FitsIn args (after_number s)
+  FitsIn (choice c args) s = FitsIn args (after_choice c s)
+  FitsIn (layer e args) s = Fits e × FitsIn args (after_layer s)
 
 -- how many layers stand on the longest path above a leaf
 abbrev mutual
   pub depth : Tree → ℕ
-  depth (null at) = 0
-  depth (mem at) = 0
-  depth (region at size align e) = suc (depth e)
-  depth (bitmap at block count e) = suc (depth e)
-  depth (kr at size e) = suc (depth e)
-  depth (freelist at bounds e) = suc (depth e)
-  depth (quantize at kind e) = suc (depth e)
-  depth (stats at e) = suc (depth e)
-  depth (affix at prefix suffix e) = suc (depth e)
-  depth (segregate at es e) = suc (max (greatest_depth es) (depth e))
-  depth (buckets at least greatest step e) = suc (depth e)
-  depth (fallback at p f) = suc (max (depth p) (depth f))
-  depth (list at count e) = suc (depth e)
+  depth (leaf at k) = 0
+  depth (node at k args) = suc (greatest_depth args)
 
-  pub greatest_depth : Members → ℕ
-  greatest_depth no_members = 0
-  greatest_depth (member threshold e es) = max (depth e) (greatest_depth es)
+  -- the greatest depth of the layers
+  pub greatest_depth : Args → ℕ
+  greatest_depth (last e) = depth e
+  greatest_depth (number n args) = greatest_depth args
+  greatest_depth (choice c args) = greatest_depth args
+  greatest_depth (layer e args) = max (depth e) (greatest_depth args)

@@ -1,4 +1,6 @@
 pub mod Parts
+pub mod Words
+pub mod Signatures
 pub mod Trees
 pub mod Tokens
 pub mod Grammar
@@ -6,7 +8,8 @@ pub mod Flaws
 pub mod Faults
 pub mod Answers
 pub mod Canonical
+pub mod Printing
 pub mod Descent
-pub mod Reader
+pub mod Nodes
 pub mod ShapeOf
 pub mod Sound

@@ -1,21 +1,51 @@
 -- The shape that a tree stands for, in a Space that has made some leaves already: its leaves take the next tags, in preorder.
-use Rattle.std.specs.Prelude.{ℕ, ◌+◌}
-use Rattle.layer_rules.specs.Shape.{Shape}
-use Rattle.layer_rules.specs.Shape as shape
-use Rattle.expr_reader.specs.Trees.{Tree, null, mem, region, bitmap, kr, freelist, quantize, stats, affix, segregate, buckets, fallback, list}
+use Rattle.std.specs.Prelude.{ℕ, ◌+◌, List, [], ◌∷◌}
+use Rattle.shapes.specs.Shape.{Shape}
+use Rattle.shapes.specs.Shape as shape
+use Rattle.expr_reader.specs.declared.token.Name.{Name}
+use Rattle.expr_reader.specs.declared.token.Name.TheVariants as name
+use Rattle.expr_reader.specs.declared.node.Head.{Head}
+use Rattle.expr_reader.specs.declared.node.Head.TheVariants.{Number}
+use Rattle.expr_reader.specs.Trees.{Tree, leaf, node, Args, last, number, choice, layer}
+use Rattle.expr_reader.specs.Flaws.{heads}
 
--- The forms that aren't in the grammar yet stand for no memory at all.
-abbrev pub shape_of : Tree → (made : ℕ) → Shape
-shape_of (null at) made = shape.null
-shape_of (mem at) made = shape.mem (made + 1)
-shape_of (region at size align e) made = shape.region size align (shape_of e made)
-shape_of (bitmap at block count e) made = shape.null
-shape_of (kr at size e) made = shape.null
-shape_of (freelist at bounds e) made = shape.null
-shape_of (quantize at kind e) made = shape.null
-shape_of (stats at e) made = shape.null
-shape_of (affix at prefix suffix e) made = shape.null
-shape_of (segregate at es e) made = shape.null
-shape_of (buckets at least greatest step e) made = shape.null
-shape_of (fallback at p f) made = shape.null
-shape_of (list at count e) made = shape.null
+-- how many leaves of the Space a word takes that stands alone
+abbrev pub leaves_of : Name → ℕ
+leaves_of name.Mem = 1
+leaves_of k = 0
+
+-- how many leaves of the Space the tree takes
+abbrev mutual
+  pub leaf_count : Tree → ℕ
+  leaf_count (leaf at k) = leaves_of k
+  leaf_count (node at k args) = leaf_count_in args
+
+  -- how many leaves the layers of some arguments take
+  pub leaf_count_in : Args → ℕ
+  leaf_count_in (last e) = leaf_count e
+  leaf_count_in (number n args) = leaf_count_in args
+  leaf_count_in (choice c args) = leaf_count_in args
+  leaf_count_in (layer e args) = leaf_count e + leaf_count_in args
+
+-- the shape of a word that stands alone
+abbrev pub leaf_shape : Name → (made : ℕ) → Shape
+leaf_shape name.Mem made = shape.mem (made + 1)
+leaf_shape k made = shape.null
+
+-- The shape of a layer, from its numbers and the shapes below it. A word that isn't in the grammar yet stands for no memory at all.
+abbrev pub layer_shape : Name → List Head → List Shape → Shape
+layer_shape name.Region (Number size ∷ Number align ∷ []) (s ∷ []) = shape.region size align s
+layer_shape k hs ss = shape.null
+
+-- the shape of a tree
+abbrev mutual
+  pub shape_of : Tree → (made : ℕ) → Shape
+  shape_of (leaf at k) made = leaf_shape k made
+  shape_of (node at k args) made = layer_shape k (heads args) (shapes args made)
+
+  -- the shapes of the layers in order
+  pub shapes : Args → (made : ℕ) → List Shape
+  shapes (last e) made = shape_of e made ∷ []
+  shapes (number n args) made = shapes args made
+  shapes (choice c args) made = shapes args made
+  shapes (layer e args) made = shape_of e made ∷ shapes args (made + leaf_count e)

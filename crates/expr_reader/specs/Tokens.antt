@@ -1,13 +1,12 @@
 -- The tokens of a text, each with its place. Spaces stand between tokens and mean nothing.
-use Rattle.std.specs.Prelude.{ℕ, zero, suc, ◌+◌, ◌^◌, Bool, ◌||◌, ◌==◌, nat_lt, if◌then◌else◌, List, [], ◌∷◌, take, codes, Option, Some, None}
+use Rattle.std.specs.Prelude.{ℕ, zero, suc, ◌+◌, ◌^◌, Bool, ◌||◌, ◌==◌, nat_lt, if◌then◌else◌, List, [], ◌∷◌, take, Option, Some, None}
 use Rattle.std.specs.Char.{is_ascii_digit, is_ascii_lowercase}
 use Rattle.std.specs.List.{prefix_len}
-use Rattle.std.specs.Str.{bytes_eq}
 use Rattle.std.specs.Str.Parse.{digits_value}
 use Rattle.expr_reader.specs.declared.token.Word.{Word}
-use Rattle.expr_reader.specs.declared.token.Word.TheVariants.{Null, Mem, Region, Unknown}
 use Rattle.expr_reader.specs.declared.token.Mark.{Mark}
 use Rattle.expr_reader.specs.declared.token.Mark.TheVariants.{Open, Comma, Close}
+use Rattle.expr_reader.specs.Words.{word_of}
 
 -- a token's meaning; a stray is a byte that begins no token
 pub data Meaning : Type 0 where
@@ -24,14 +23,6 @@ pub record Placed : Type 0 where
 -- what may stand in a word behind its first letter
 abbrev pub is_word_byte : ℕ → Bool
 is_word_byte b = is_ascii_lowercase b || is_ascii_digit b
-
--- the words of the grammar, by their letters
-abbrev pub word_of : List ℕ → Word
-word_of letters =
-    if bytes_eq letters (codes "null") then Null
-    else (if bytes_eq letters (codes "mem") then Mem
-    else (if bytes_eq letters (codes "region") then Region
-    else Unknown))
 
 -- the token that a byte begins, from the byte and what stands behind it
 abbrev pub meaning_of : ℕ → List ℕ → Meaning

@@ -1,22 +1,23 @@
-//! Building: from an expression that was accepted to a closed tree of layers.
+//! Building: from an expression that was accepted to a closed composition of layers.
 
 ghost use Rattle.std.specs.Prelude.{◌≡◌, ℕ, ◌+◌, ◌≤◌, List, IfOk};
 ghost use Rattle.space_core.specs.Memory.{most_leaves};
 ghost use Rattle.layer_rules.specs.Layering.{IsShut};
+ghost use Rattle.shapes.specs.RulesOf.{rules_of};
 ghost use Rattle.expr_reader.specs.Trees.{tree_of};
 ghost use Rattle.expr_reader.specs.Grammar.{depth};
 ghost use Rattle.expr_reader.specs.Answers.{IsAccepted};
 ghost use Rattle.expr_reader.specs.ShapeOf.{shape_of};
-ghost use Rattle.expr_reader.specs.Sound.{IsBuildable, leaf_count, with_leaves, AcceptedAreTrees};
+ghost use Rattle.expr_reader.specs.Sound.{IsBuildable, leaf_count, with_leaves, AcceptedAreCompositions};
 
 use crate::tree::{Expr, Form};
+use composition::{Composition, Leaf, LowerHalf, Over, Over4};
 use layer_core::{Layer, NullLayer};
-use over_tree::{Leaf, LowerHalf, Over, Over4, Tree};
 use region_block::Region;
 use space_core::{NoMemory, Space};
 use std::alloc::Global;
 
-/// A level of a tree that builds itself, with all below it, from an expression.
+/// A level of a composition that builds itself, with all below it, from an expression.
 trait Level: Layer {
     /// How many layers it has room for on a path.
     ghost levels: { ℕ };
@@ -26,14 +27,15 @@ trait Level: Layer {
         requires buildable { IsBuildable (tree_of expr.now) }
         requires levels { depth (tree_of expr.now) ≤ levels }
         requires leaves { space.old.leaves + leaf_count (tree_of expr.now) ≤ most_leaves }
-        ensures shape { IfOk result (λ l. (Self.tree l).shape ≡ shape_of (tree_of expr.now) space.old.leaves) }
-        ensures shut { IfOk result (λ l. IsShut (Self.tree l)) }
+        ensures rules { IfOk result (λ l. (Self.model l).rules ≡ rules_of (shape_of (tree_of expr.now) space.old.leaves)) }
+        ensures shut { IfOk result (λ l. IsShut (Self.model l)) }
         ensures space { space.new ≡ with_leaves (leaf_count (tree_of expr.now)) space.old };
 }
 
 impl Level for Leaf {
     ghost levels = { 0 };
 
+    #[tactic(auto, unfolding(shapes::specs::RulesOf::rules_of))]
     fn build(_alloc: Global, expr: &Expr, space: &mut Space) -> Result<Leaf, NoMemory> {
         match &expr.form {
             Form::Null => Ok(Leaf::Null(NullLayer::new())),
@@ -50,6 +52,7 @@ impl Level for Leaf {
 impl<P: Level> Level for Over<P> {
     ghost levels = { P.levels + 1 };
 
+    #[tactic(auto, using(crate::proofs::Nothing::nothing_fits), unfolding(shapes::specs::RulesOf::rules_of))]
     fn build(alloc: Global, expr: &Expr, space: &mut Space) -> Result<Over<P>, NoMemory> {
         match &expr.form {
             Form::Region {
@@ -76,25 +79,25 @@ impl Level for LowerHalf {
     }
 }
 
-/// A closed tree that stands for the expression, over the next leaves of the Space: its `mem` leaves take the next tags in preorder.
+/// A closed composition that stands for the expression, over the next leaves of the Space: its `mem` leaves take the next tags in preorder.
 ///
 /// # Errors
 /// `NoMemory` where the process has no memory left. The Space has made the leaves then too.
-pub fn build(alloc: Global, expr: &Expr, space: &mut Space) -> Result<Tree, NoMemory>
+pub fn build(alloc: Global, expr: &Expr, space: &mut Space) -> Result<Composition, NoMemory>
     // The expression is one that `read` answers.
     requires accepted { (text : List ℕ) × IsAccepted text (tree_of expr.now) }
     // The Space has room for its leaves.
     requires leaves { space.old.leaves + leaf_count (tree_of expr.now) ≤ most_leaves }
-    ensures shape { IfOk result (λ t. (⟦<Tree as Layer>⟧.tree t).shape ≡ shape_of (tree_of expr.now) space.old.leaves) }
-    ensures shut { IfOk result (λ t. IsShut (⟦<Tree as Layer>⟧.tree t)) }
+    ensures rules { IfOk result (λ t. (⟦<Composition as Layer>⟧.model t).rules ≡ rules_of (shape_of (tree_of expr.now) space.old.leaves)) }
+    ensures shut { IfOk result (λ t. IsShut (⟦<Composition as Layer>⟧.model t)) }
     // Only the count of leaves changes, whatever is answered.
     ensures space { space.new ≡ with_leaves (leaf_count (tree_of expr.now)) space.old }
 {
-    Tree::build(alloc, expr, space)
+    Composition::build(alloc, expr, space)
 }
 
-/// The shape of an expression that was accepted is proper, within the bounds of a tree of layers, and of covered forms. Its leaves are
-/// the next that the Space makes, each once.
-pub fn accepted_are_trees()
-    ensures { AcceptedAreTrees }
+/// An expression that was accepted stands for a composition within its bounds, whose rules are lawful. Its leaves are the next that
+/// the Space makes, each once.
+pub fn accepted_are_compositions()
+    ensures { AcceptedAreCompositions }
 {}

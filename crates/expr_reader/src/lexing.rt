@@ -5,10 +5,11 @@ ghost use Rattle.std.specs.Char.{is_ascii_digit, is_ascii_lowercase};
 ghost use Rattle.std.specs.List.{prefix_len};
 ghost use Rattle.std.specs.Option.{SomeIff};
 ghost use Rattle.std.specs.Str.Parse.{AllDigits, digits_value};
-ghost use Rattle.expr_reader.specs.Tokens.{is_word_byte, word_of, meaning_of, further, tokens};
+ghost use Rattle.expr_reader.specs.Tokens.{is_word_byte, meaning_of, further, tokens};
 ghost use Rattle.expr_reader.specs.Descent.{kind_of, seen};
 
-use crate::token::{Kind, Mark, Token, Word};
+use crate::token::{Kind, Mark, Token};
+use crate::words::word;
 use std::alloc::{AllocError, Global};
 
 /// How many bytes at the front may stand in a word.
@@ -46,20 +47,6 @@ fn number(digits: &[u8]) -> Option<u64>
         value = value.checked_mul(10)?.checked_add(u64::from(units))?;
     }
     Some(value)
-}
-
-fn word(letters: &[u8]) -> Word
-    ensures { result ≡ word_of letters.now }
-{
-    if letters == b"null".as_slice() {
-        Word::Null
-    } else if letters == b"mem".as_slice() {
-        Word::Mem
-    } else if letters == b"region".as_slice() {
-        Word::Region
-    } else {
-        Word::Unknown
-    }
 }
 
 /// The token that the first byte begins, and how many further bytes it has.

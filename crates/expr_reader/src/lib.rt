@@ -1,16 +1,21 @@
 //! Expressions such as `region(1024, 16, mem)`: what they are made of, how a text is read, how one is printed, and which
-//! tree of layers it stands for.
+//! composition of layers it stands for.
 #![tactic(auto)]
 
 mod building;
 mod fault;
+mod flaws;
+mod forms;
 mod lexing;
+mod node;
 mod printing;
 mod reading;
+mod signature;
 mod token;
 mod tree;
+mod words;
 
-pub use building::{accepted_are_trees, build};
+pub use building::{accepted_are_compositions, build};
 pub use fault::ExprFault;
 pub use printing::{canonical_is_accepted, canonical_is_read, print};
 pub use reading::{each_text_is_read_once, read};

@@ -1,14 +1,17 @@
 //! Printing: an expression as its canonical text.
 
 ghost use Rattle.std.specs.Prelude.{◌≡◌, ◌↔◌, ◌++◌, List, ℕ, codes, string_bytes, OnOk, IfOk};
-ghost use Rattle.expr_reader.specs.Trees.{Tree, tree_of, members};
-ghost use Rattle.expr_reader.specs.Canonical.{numeral, numerals, bounds_text, kind_text, canonical, members_text, in_place};
+ghost use Rattle.expr_reader.specs.Trees.{Tree, tree_of};
+ghost use Rattle.expr_reader.specs.Canonical.{numeral, canonical, word_text, choice_text, in_place};
+ghost use Rattle.expr_reader.specs.Printing.{numerals, bounds_text, kind_text, members_text};
 ghost use Rattle.expr_reader.specs.Grammar.{Spells, Fits};
 ghost use Rattle.expr_reader.specs.Tokens.{tokens};
 ghost use Rattle.expr_reader.specs.Answers.{IsAccepted};
 ghost use Rattle.expr_reader.specs.ShapeOf.{shape_of};
 
+use crate::token::{Choice, Name, Word};
 use crate::tree::{Bounds, Expr, Form, Parts, RoundKind};
+use crate::words::letters;
 use space_core::NoMemory;
 use std::alloc::{AllocError, Global};
 
@@ -29,12 +32,28 @@ fn put_numbers(out: &mut String, numbers: &[u64]) -> Result<(), AllocError>
     Ok(())
 }
 
+/// Puts the word of a layer and the parenthesis behind it at the end.
+fn put_word(out: &mut String, name: Name) -> Result<(), AllocError>
+    ensures { OnOk result (string_bytes out.new ≡ string_bytes out.old ++ (word_text name ++ codes "(")) }
+{
+    out.push_str(letters(Word::Named(name)))?;
+    out.push_str("(")
+}
+
+/// Puts a word in place of numbers and a comma at the end.
+fn put_choice(out: &mut String, choice: Choice) -> Result<(), AllocError>
+    ensures { OnOk result (string_bytes out.new ≡ string_bytes out.old ++ (choice_text choice ++ codes ",")) }
+{
+    out.push_str(letters(Word::Chosen(choice)))?;
+    out.push_str(",")
+}
+
 /// Puts the sizes that a free list keeps at the end.
 fn put_bounds(out: &mut String, bounds: Bounds) -> Result<(), AllocError>
     ensures { OnOk result (string_bytes out.new ≡ string_bytes out.old ++ bounds_text bounds) }
 {
     match bounds {
-        Bounds::Any => out.push_str("any,"),
+        Bounds::Any => put_choice(out, Choice::Any),
         Bounds::Range { min, max } => put_numbers(out, &[min, max]),
     }
 }
@@ -44,7 +63,7 @@ fn put_kind(out: &mut String, kind: RoundKind) -> Result<(), AllocError>
     ensures { OnOk result (string_bytes out.new ≡ string_bytes out.old ++ kind_text kind) }
 {
     match kind {
-        RoundKind::Pow2 => out.push_str("pow2,"),
+        RoundKind::Pow2 => put_choice(out, Choice::Pow2),
         RoundKind::Step { step } => put_number(out, step),
     }
 }
@@ -52,7 +71,7 @@ fn put_kind(out: &mut String, kind: RoundKind) -> Result<(), AllocError>
 /// Puts the members of a segregator but the last at the end, with their thresholds.
 #[cycle(print)]
 fn put_members(out: &mut String, parts: &Parts) -> Result<(), AllocError>
-    ensures { OnOk result (string_bytes out.new ≡ string_bytes out.old ++ members_text (members parts.now)) }
+    ensures { OnOk result (string_bytes out.new ≡ string_bytes out.old ++ members_text parts.now) }
 {
     for part in &parts.items {
         put_number(out, part.threshold)?;
@@ -62,84 +81,80 @@ fn put_members(out: &mut String, parts: &Parts) -> Result<(), AllocError>
     Ok(())
 }
 
-/// Puts a layer with one layer below it at the end: its word with the parenthesis, its numbers, the layer below.
+/// Puts the last layer of some arguments at the end, and the parenthesis that closes.
 #[cycle(print)]
-fn put_layer(out: &mut String, word: &str, numbers: &[u64], below: &Expr) -> Result<(), AllocError>
-    ensures { OnOk result (string_bytes out.new ≡ string_bytes out.old ++ (word.now ++ (numerals numbers.now ++ (canonical (tree_of below.now) ++ codes ")")))) }
+fn put_last(out: &mut String, below: &Expr) -> Result<(), AllocError>
+    ensures { OnOk result (string_bytes out.new ≡ string_bytes out.old ++ (canonical (tree_of below.now) ++ codes ")")) }
 {
-    out.push_str(word)?;
-    put_numbers(out, numbers)?;
     put(out, below)?;
     out.push_str(")")
 }
 
+/// Puts a layer with one layer below it at the end.
+#[cycle(print)]
+fn put_layer(out: &mut String, name: Name, numbers: &[u64], below: &Expr) -> Result<(), AllocError>
+    ensures { OnOk result (string_bytes out.new ≡ string_bytes out.old ++ (word_text name ++ (codes "(" ++ (numerals numbers.now ++ (canonical (tree_of below.now) ++ codes ")"))))) }
+{
+    put_word(out, name)?;
+    put_numbers(out, numbers)?;
+    put_last(out, below)
+}
+
 /// Puts the canonical text of an expression at the end.
 #[cycle(print)]
+#[tactic(auto, using(crate::proofs::Printed::texts))]
 fn put(out: &mut String, expr: &Expr) -> Result<(), AllocError>
     ensures { OnOk result (string_bytes out.new ≡ string_bytes out.old ++ canonical (tree_of expr.now)) }
 {
     match &expr.form {
-        Form::Null => out.push_str("null"),
-        Form::Mem => out.push_str("mem"),
+        Form::Null => out.push_str(letters(Word::Named(Name::Null))),
+        Form::Mem => out.push_str(letters(Word::Named(Name::Mem))),
         Form::Region {
             size,
             align,
             parent,
-        } => put_layer(out, "region(", &[*size, *align], parent),
+        } => put_layer(out, Name::Region, &[*size, *align], parent),
         Form::Bitmap {
             block,
             count,
             parent,
-        } => put_layer(out, "bitmap(", &[*block, *count], parent),
-        Form::Kr { size, parent } => put_layer(out, "kr(", &[*size], parent),
-        Form::FreeList { bounds, parent } => put_free_list(out, *bounds, parent),
-        Form::Quantize { kind, parent } => put_quantize(out, *kind, parent),
-        Form::Stats { parent } => put_layer(out, "stats(", &[], parent),
+        } => put_layer(out, Name::Bitmap, &[*block, *count], parent),
+        Form::Kr { size, parent } => put_layer(out, Name::Kr, &[*size], parent),
+        Form::FreeList { bounds, parent } => {
+            put_word(out, Name::FreeList)?;
+            put_bounds(out, *bounds)?;
+            put_last(out, parent)
+        }
+        Form::Quantize { kind, parent } => {
+            put_word(out, Name::Quantize)?;
+            put_kind(out, *kind)?;
+            put_last(out, parent)
+        }
+        Form::Stats { parent } => put_layer(out, Name::Stats, &[], parent),
         Form::Affix {
             prefix,
             suffix,
             parent,
-        } => put_layer(out, "affix(", &[*prefix, *suffix], parent),
+        } => put_layer(out, Name::Affix, &[*prefix, *suffix], parent),
         Form::Segregate { parts, last } => {
-            out.push_str("segregate(")?;
+            put_word(out, Name::Segregate)?;
             put_members(out, parts)?;
-            put_layer(out, "", &[], last)
+            put_last(out, last)
         }
         Form::Buckets {
             min,
             max,
             step,
             member,
-        } => put_layer(out, "buckets(", &[*min, *max, *step], member),
+        } => put_layer(out, Name::Buckets, &[*min, *max, *step], member),
         Form::Fallback { primary, second } => {
-            out.push_str("fallback(")?;
+            put_word(out, Name::Fallback)?;
             put(out, primary)?;
-            put_layer(out, ",", &[], second)
+            out.push_str(",")?;
+            put_last(out, second)
         }
-        Form::List { count, member } => put_layer(out, "list(", &[*count], member),
+        Form::List { count, member } => put_layer(out, Name::List, &[*count], member),
     }
-}
-
-/// Puts a free list at the end.
-#[cycle(print)]
-fn put_free_list(out: &mut String, bounds: Bounds, parent: &Expr) -> Result<(), AllocError>
-    ensures { OnOk result (string_bytes out.new ≡ string_bytes out.old ++ (codes "freelist(" ++ (bounds_text bounds ++ (canonical (tree_of parent.now) ++ codes ")")))) }
-{
-    out.push_str("freelist(")?;
-    put_bounds(out, bounds)?;
-    put(out, parent)?;
-    out.push_str(")")
-}
-
-/// Puts a quantizer at the end.
-#[cycle(print)]
-fn put_quantize(out: &mut String, kind: RoundKind, parent: &Expr) -> Result<(), AllocError>
-    ensures { OnOk result (string_bytes out.new ≡ string_bytes out.old ++ (codes "quantize(" ++ (kind_text kind ++ (canonical (tree_of parent.now) ++ codes ")")))) }
-{
-    out.push_str("quantize(")?;
-    put_kind(out, kind)?;
-    put(out, parent)?;
-    out.push_str(")")
 }
 
 /// The canonical text of an expression: no spaces, and no leading zeros.

@@ -1,41 +1,26 @@
-//! Reading: from the tokens of a text to an expression.
+//! Reading: from the tokens of a text to what they spell, by the signatures of the words.
 
-ghost use Rattle.std.specs.Prelude.{◌≡◌, ◌≤◌, IfOk, IfErr};
-ghost use Rattle.layer_rules.specs.Proper.{is_power_of_two};
+ghost use Rattle.std.specs.Prelude.{◌≡◌, Some, IfOk, IfErr};
+ghost use Rattle.expr_reader.specs.Nodes.{node_tree, args_tree};
+ghost use Rattle.expr_reader.specs.Descent.{same_mark, behind_mark, more, after_numeral, after_tree, args_at, layer_at, tree_at, whole_at, answer_to, Answers};
+ghost use Rattle.expr_reader.specs.Signatures as signatures;
+ghost use Rattle.expr_reader.specs.Trees as trees;
 ghost use Rattle.expr_reader.specs.Trees.{Tree, tree_of};
-ghost use Rattle.expr_reader.specs.Flaws.{alignment, is_region_size, is_region_alignment, unless, first_of_two, fault_place, fault_rank, goes_before};
-ghost use Rattle.expr_reader.specs.Descent.{same_mark, behind_mark, number_at, numeral_at, region_flaw, layer_at, tree_at, whole_at, answer_to, Answers};
-ghost use Rattle.expr_reader.specs.Answers.{IsAccepted, HasFault, IsFaultOrNoMemory, FailsWith, Gives, EachTextIsReadOnce};
+ghost use Rattle.expr_reader.specs.Answers.{IsAccepted, HasFault, IsFaultOrNoMemory, FailsWith, Gives, AnswersAreReadings, EachTextIsReadOnce};
 ghost use Rattle.expr_reader.specs.declared.fault.ExprFault.{ExprFault};
-ghost use Rattle.expr_reader.specs.Reader.{numeral, found};
 
 use crate::fault::ExprFault;
+use crate::flaws::first_flaw;
+use crate::forms::expr_of;
 use crate::lexing::tokens;
-use crate::token::{Kind, Mark, Token, Word};
-use crate::tree::{Expr, Form};
-use size_round::{PowerOfTwo, Rounding};
+use crate::node::{Args, Node};
+use crate::signature::{Entry, Signature, after_choice, after_layer, after_number, ends, takes};
+use crate::token::{Choice, Kind, Mark, Name, Token, Word};
+use crate::tree::Expr;
 use std::alloc::Global;
 
 /// How many layers may stand on one path above a leaf.
 const MOST_LAYERS: u32 = 8;
-
-/// The bytes that each place of a `null` is a multiple of.
-const NULL_ALIGNMENT: u64 = 65536;
-
-/// A number, and the place of its first digit.
-#[derive(Clone, Copy, Drop)]
-pub struct Numeral {
-    pub value: u64,
-    pub at: u64,
-}
-
-/// An expression with its alignment in bytes, and the flaw of it that is told.
-#[derive(Drop)]
-pub struct Found {
-    pub expr: Expr,
-    pub align: u64,
-    pub flaw: Option<ExprFault>,
-}
 
 fn same_mark(a: Mark, b: Mark) -> bool
     ensures { result ≡ same_mark a b }
@@ -67,196 +52,186 @@ fn behind_mark(mark: Mark, end: u64, row: &[Token]) -> Result<&[Token], ExprFaul
     }
 }
 
-/// A number, and the row behind it.
-fn number(end: u64, row: &[Token]) -> Result<(Numeral, &[Token]), ExprFault>
-    ensures { Answers (λ x. (numeral x.0, x.1.now)) result (number_at end row.now) }
-{
-    match row {
-        [] => Err(ExprFault::Syntax { at: end }),
-        [token, rest @ ..] => match token.kind {
-            Kind::Number(Some(value)) => {
-                let found = Numeral {
-                    value,
-                    at: token.at,
-                };
-                Ok((found, rest))
-            }
-            Kind::Number(None) => Err(ExprFault::NumberTooLarge { at: token.at }),
-            _ => Err(ExprFault::Syntax { at: token.at }),
-        },
-    }
-}
-
-/// A number with the comma behind it, and the row behind both.
-fn number_and_comma(end: u64, row: &[Token]) -> Result<(Numeral, &[Token]), ExprFault>
-    ensures { Answers (λ x. (numeral x.0, x.1.now)) result (numeral_at end row.now) }
-{
-    let (found, rest) = number(end, row)?;
-    let rest = behind_mark(Mark::Comma, end, rest)?;
-    Ok((found, rest))
-}
-
-fn is_power_of_two(align: u64) -> bool
-    requires one { 1 ≤ align }
-    requires most { align ≤ 4096 }
-    ensures { result ≡ is_power_of_two align }
-{
-    PowerOfTwo.round(align) == align
-}
-
-fn is_region_size(size: u64) -> bool
-    ensures { result ≡ is_region_size size }
-{
-    size >= 1 && size <= 1 << 30
-}
-
-fn is_region_alignment(align: u64) -> bool
-    ensures { result ≡ is_region_alignment align }
-{
-    align >= 1 && align <= 4096 && is_power_of_two(align)
-}
-
-fn unless(is_kept: bool, fault: ExprFault) -> Option<ExprFault>
-    ensures { result ≡ unless is_kept fault }
-{
-    if is_kept { None } else { Some(fault) }
-}
-
-fn fault_place(fault: ExprFault) -> u64
-    ensures { result ≡ fault_place fault }
-{
-    match fault {
-        ExprFault::Syntax { at } => at,
-        ExprFault::NumberTooLarge { at } => at,
-        ExprFault::TooDeep { at } => at,
-        ExprFault::BadParameter { at } => at,
-        ExprFault::NeedsAlignment { at } => at,
-        ExprFault::NoMemory => 0,
-    }
-}
-
-fn fault_rank(fault: ExprFault) -> u32
-    ensures { result ≡ fault_rank fault }
-{
-    match fault {
-        ExprFault::Syntax { .. } => 0,
-        ExprFault::NumberTooLarge { .. } => 1,
-        ExprFault::TooDeep { .. } => 2,
-        ExprFault::BadParameter { .. } => 3,
-        ExprFault::NeedsAlignment { .. } => 4,
-        ExprFault::NoMemory => 5,
-    }
-}
-
-fn goes_before(first: ExprFault, second: ExprFault) -> bool
-    ensures { result ≡ goes_before first second }
-{
-    let place = fault_place(first);
-    let other = fault_place(second);
-    if place == other {
-        fault_rank(first) < fault_rank(second)
-    } else {
-        place < other
-    }
-}
-
-fn first_of_two(first: Option<ExprFault>, second: Option<ExprFault>) -> Option<ExprFault>
-    ensures { result ≡ first_of_two first second }
-{
-    match (first, second) {
-        (None, _) => second,
-        (Some(_), None) => first,
-        (Some(f), Some(g)) => { if goes_before(g, f) { second } else { first } }
-    }
-}
-
-/// The flaw of a region that is told.
-#[tactic(auto, using(crate::proofs::Descents::place_of_form))]
-fn region_flaw(size: Numeral, align: Numeral, parent: &Found) -> Option<ExprFault>
-    requires { parent.now.align ≡ alignment (tree_of parent.now.expr) }
-    ensures { result ≡ region_flaw (numeral size) (numeral align) (found parent.now) }
-{
-    let size_flaw = unless(
-        is_region_size(size.value),
-        ExprFault::BadParameter { at: size.at },
-    );
-    let align_flaw = unless(
-        is_region_alignment(align.value),
-        ExprFault::BadParameter { at: align.at },
-    );
-    let parent_flaw = unless(
-        align.value <= parent.align,
-        ExprFault::NeedsAlignment { at: parent.expr.at },
-    );
-    let below = first_of_two(parent_flaw, parent.flaw);
-    first_of_two(size_flaw, first_of_two(align_flaw, below))
-}
-
-/// An expression of `left` layers at most, and the row behind it.
+/// What a signature takes with the parenthesis that closes it, of no more than `most` arguments, with `left` layers at most.
 #[cycle(descent)]
-fn tree(alloc: Global, left: u32, end: u64, row: &[Token]) -> Result<(Found, &[Token]), ExprFault>
-    ensures tree { Answers (λ x. (found x.0, x.1.now)) result (tree_at left end row.now) }
-    ensures align { IfOk result (λ x. x.0.align ≡ alignment (tree_of x.0.expr)) }
-{
-    match row {
-        [] => Err(ExprFault::Syntax { at: end }),
-        [token, rest @ ..] => match token.kind {
-            Kind::Word(Word::Null) => Ok((leaf(token.at, Form::Null, NULL_ALIGNMENT), rest)),
-            Kind::Word(Word::Mem) => Ok((leaf(token.at, Form::Mem, space_core::CELL_SIZE), rest)),
-            Kind::Word(Word::Region) => region(alloc, left, token.at, end, rest),
-            _ => Err(ExprFault::Syntax { at: token.at }),
-        },
-    }
-}
-
-fn leaf(at: u64, form: Form, align: u64) -> Found
-    ensures { result ≡ record { expr = record { at = at; form = form }; align = align; flaw = None } }
-{
-    Found {
-        expr: Expr { at, form },
-        align,
-        flaw: None,
-    }
-}
-
-/// A region of `left` layers at most whose word stands at `at`, from the row behind the word.
-#[cycle(descent)]
-#[tactic(auto, using(crate::proofs::Descents::layers), unfolding(crate::specs::Descent::region_at))]
-fn region(
+#[tactic(auto, using(crate::proofs::Steps::arguments))]
+fn arguments(
     alloc: Global,
     left: u32,
+    most: usize,
+    signature: Signature,
+    end: u64,
+    row: &[Token],
+) -> Result<(Args, &[Token]), ExprFault>
+    ensures { Answers (λ x. (args_tree x.0, x.1.now)) result (args_at (tree_at left) most signature end row.now) }
+{
+    if most == 0 {
+        return Err(ExprFault::Syntax { at: end });
+    }
+    match row {
+        [] => Err(ExprFault::Syntax { at: end }),
+        [token, rest @ ..] => match token.kind {
+            Kind::Word(Word::Named(_)) => layers(
+                alloc,
+                left,
+                most - 1,
+                signature,
+                token.at,
+                end,
+                row,
+            ),
+            Kind::Word(Word::Chosen(choice)) => {
+                let next = after_choice(choice, signature);
+                chosen(alloc, left, most - 1, next, choice, token.at, end, rest)
+            }
+            Kind::Number(value) => {
+                let next = after_number(signature);
+                numbered(alloc, left, most - 1, next, value, token.at, end, rest)
+            }
+            _ => Err(ExprFault::Syntax { at: token.at }),
+        },
+    }
+}
+
+/// A word in place of numbers and what comes behind it, from the comma on.
+#[cycle(descent)]
+fn chosen(
+    alloc: Global,
+    left: u32,
+    most: usize,
+    next: Option<Signature>,
+    choice: Choice,
     at: u64,
     end: u64,
     row: &[Token],
-) -> Result<(Found, &[Token]), ExprFault>
-    ensures tree { Answers (λ x. (found x.0, x.1.now)) result (layer_at left at end row.now) }
-    ensures align { IfOk result (λ x. x.0.align ≡ alignment (tree_of x.0.expr)) }
+) -> Result<(Args, &[Token]), ExprFault>
+    ensures { Answers (λ x. (args_tree x.0, x.1.now)) result (more (args_at (tree_at left) most) next at (trees.choice choice) end row.now) }
+{
+    match next {
+        None => Err(ExprFault::Syntax { at }),
+        Some(next) => {
+            let row = behind_mark(Mark::Comma, end, row)?;
+            let (rest, row) = arguments(alloc, left, most, next, end, row)?;
+            let args = Args::Chosen {
+                choice,
+                rest: Box::new(alloc, rest)?,
+            };
+            Ok((args, row))
+        }
+    }
+}
+
+/// A number and what comes behind it, from the comma on.
+#[cycle(descent)]
+fn numbered(
+    alloc: Global,
+    left: u32,
+    most: usize,
+    next: Option<Signature>,
+    value: Option<u64>,
+    at: u64,
+    end: u64,
+    row: &[Token],
+) -> Result<(Args, &[Token]), ExprFault>
+    ensures { Answers (λ x. (args_tree x.0, x.1.now)) result (after_numeral (args_at (tree_at left) most) next at value end row.now) }
+{
+    match next {
+        None => Err(ExprFault::Syntax { at }),
+        Some(next) => match value {
+            None => Err(ExprFault::NumberTooLarge { at }),
+            Some(value) => {
+                let row = behind_mark(Mark::Comma, end, row)?;
+                let (rest, row) = arguments(alloc, left, most, next, end, row)?;
+                let args = Args::Number {
+                    value,
+                    rest: Box::new(alloc, rest)?,
+                };
+                Ok((args, row))
+            }
+        },
+    }
+}
+
+/// A layer and what comes behind it.
+#[cycle(descent)]
+fn layers(
+    alloc: Global,
+    left: u32,
+    most: usize,
+    signature: Signature,
+    at: u64,
+    end: u64,
+    row: &[Token],
+) -> Result<(Args, &[Token]), ExprFault>
+    ensures { Answers (λ x. (args_tree x.0, x.1.now)) result (after_tree (tree_at left) (args_at (tree_at left) most) (signatures.ends (Some signature)) (signatures.after_layer (Some signature)) at end row.now) }
+{
+    if ends(signature) {
+        let (below, row) = tree(alloc, left, end, row)?;
+        let row = behind_mark(Mark::Close, end, row)?;
+        let args = Args::Last {
+            below: Box::new(alloc, below)?,
+        };
+        Ok((args, row))
+    } else {
+        match after_layer(signature) {
+            None => Err(ExprFault::Syntax { at }),
+            Some(next) => {
+                let (below, row) = tree(alloc, left, end, row)?;
+                let row = behind_mark(Mark::Comma, end, row)?;
+                let (rest, row) = arguments(alloc, left, most, next, end, row)?;
+                let args = Args::Layer {
+                    below: Box::new(alloc, below)?,
+                    rest: Box::new(alloc, rest)?,
+                };
+                Ok((args, row))
+            }
+        }
+    }
+}
+
+/// A layer of `left` layers at most whose word stands at `at`, from the row behind the word.
+#[cycle(descent)]
+#[tactic(auto, using(crate::proofs::Steps::layers), unfolding(crate::specs::Descent::node_at))]
+fn layer(
+    alloc: Global,
+    left: u32,
+    at: u64,
+    name: Name,
+    signature: Signature,
+    end: u64,
+    row: &[Token],
+) -> Result<(Node, &[Token]), ExprFault>
+    ensures { Answers (λ x. (node_tree x.0, x.1.now)) result (layer_at left at name signature end row.now) }
 {
     if left == 0 {
         return Err(ExprFault::TooDeep { at });
     }
     let row = behind_mark(Mark::Open, end, row)?;
-    let (size, row) = number_and_comma(end, row)?;
-    let (align, row) = number_and_comma(end, row)?;
-    let (parent, row) = tree(alloc, left - 1, end, row)?;
-    let row = behind_mark(Mark::Close, end, row)?;
-    let flaw = region_flaw(size, align, &parent);
-    let form = Form::Region {
-        size: size.value,
-        align: align.value,
-        parent: Box::new(alloc, parent.expr)?,
-    };
-    let found = Found {
-        expr: Expr { at, form },
-        align: align.value,
-        flaw,
-    };
-    Ok((found, row))
+    let (args, row) = arguments(alloc, left - 1, row.len(), signature, end, row)?;
+    Ok((Node::Inner { at, name, args }, row))
 }
 
-/// The expression that a whole row spells.
-fn whole(alloc: Global, end: u64, row: &[Token]) -> Result<Found, ExprFault>
-    ensures { Answers found result (whole_at end row.now) }
+/// What a row spells of `left` layers at most, and the row behind it.
+#[cycle(descent)]
+fn tree(alloc: Global, left: u32, end: u64, row: &[Token]) -> Result<(Node, &[Token]), ExprFault>
+    ensures { Answers (λ x. (node_tree x.0, x.1.now)) result (tree_at left end row.now) }
+{
+    match row {
+        [] => Err(ExprFault::Syntax { at: end }),
+        [token, rest @ ..] => match token.kind {
+            Kind::Word(Word::Named(name)) => match takes(name) {
+                Entry::Missing => Err(ExprFault::Syntax { at: token.at }),
+                Entry::Alone => Ok((Node::Leaf { at: token.at, name }, rest)),
+                Entry::Takes(signature) => layer(alloc, left, token.at, name, signature, end, rest),
+            },
+            _ => Err(ExprFault::Syntax { at: token.at }),
+        },
+    }
+}
+
+/// What a whole row spells.
+fn whole_row(alloc: Global, end: u64, row: &[Token]) -> Result<Node, ExprFault>
+    ensures { Answers node_tree result (whole_at end row.now) }
 {
     let (found, rest) = tree(alloc, MOST_LAYERS, end, row)?;
     match rest {
@@ -270,9 +245,9 @@ fn answer(alloc: Global, text: &[u8]) -> Result<Expr, ExprFault>
     ensures { Answers tree_of result (answer_to text.now) }
 {
     let row = tokens(alloc, text)?;
-    let found = whole(alloc, text.len() as u64, &row)?;
-    match found.flaw {
-        None => Ok(found.expr),
+    let found = whole_row(alloc, text.len() as u64, &row)?;
+    match first_flaw(alloc, &found, &row)? {
+        None => Ok(expr_of(alloc, MOST_LAYERS, found)?),
         Some(flaw) => Err(flaw),
     }
 }
@@ -293,7 +268,8 @@ pub fn read(alloc: Global, text: &str) -> Result<Expr, ExprFault>
     answer(alloc, text.as_bytes())
 }
 
-/// Each text is read as one expression or has one fault, and no other.
+/// Each text is read as one expression or has one fault, and no other: what the descent gives for it.
 pub fn each_text_is_read_once()
-    ensures { EachTextIsReadOnce }
+    ensures once { EachTextIsReadOnce }
+    ensures computed { AnswersAreReadings }
 {}

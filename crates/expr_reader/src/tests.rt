@@ -153,22 +153,22 @@ fn other_forms(rt: HostRuntime) -> Result<(), Fail> {
     Ok(())
 }
 
-/// How many nodes the tree of a text has, the alignment of its blocks in bytes, and how many leaves it takes.
+/// How many nodes the composition of a text has, the alignment of its blocks in bytes, and how many leaves it takes.
 fn built(rt: &impl Abort, alloc: Global, text: &str) -> Result<[u64; 3], Fail> {
     let mut space = Space::closed();
     match read(alloc, text) {
         Ok(expr) => {
-            let tree = build(alloc, &expr, &mut space).map_err(|_| "out of memory")?;
-            assert!(rt; !tree.is_open());
+            let layers = build(alloc, &expr, &mut space).map_err(|_| "out of memory")?;
+            assert!(rt; !layers.is_open());
             let leaves = u64::from(space.leaves());
-            Ok([u64::from(tree.nodes()), tree.alignment(), leaves])
+            Ok([u64::from(layers.nodes()), layers.alignment(), leaves])
         }
         Err(_) => Err("no expression".into()),
     }
 }
 
 #[test]
-fn trees(rt: HostRuntime) -> Result<(), Fail> {
+fn compositions(rt: HostRuntime) -> Result<(), Fail> {
     let table = [
         ("null", [1, 65536, 0]),
         ("mem", [1, 64, 1]),

@@ -4,11 +4,11 @@ use Rattle.std.proofs.lemmas.List.{ext_get_or, get_or-take, get_or-drop, get_or-
 use Rattle.std.proofs.lemmas.Bool.Decides.{nat_tests}
 use Rattle.std.specs.List.{slice_range}
 use Rattle.space_core.specs.Runs.{put_run}
-use Rattle.space_core.proofs.CellRuns.{length-put_run}
+use Rattle.space_core.specs.CellRuns.{length-put_run}
 use Rattle.layer_rules.specs.declared.Block.{Block}
 use Rattle.layer_rules.specs.Blocks.{end_of, lies_in, is_apart}
-use Rattle.layer_rules.specs.Layering.{Keeps}
-use Rattle.layer_laws.proofs.Runs.{put_run-below, put_run-above, put_run-in}
+use Rattle.layer_rules.specs.Layering.{KeepsBytes}
+use Rattle.layer_laws.specs.Runs.{put_run-below, put_run-above, put_run-in}
 
 slice-at : (xs : List ℕ) (from upto i : ℕ) → i < upto - from → get_or (slice_range xs from upto) i 0 ≡ get_or xs (from + i) 0
 slice-at xs from upto i lt = get_or-take (upto - from) (drop from xs) i 0 lt ∙ get_or-drop from xs i 0
@@ -16,7 +16,7 @@ slice-at xs from upto i lt = get_or-take (upto - from) (drop from xs) i 0 lt ∙
 length-slice : (xs : List ℕ) (from upto : ℕ) → length (slice_range xs from upto) ≡ min (upto - from) (length xs - from)
 length-slice xs from upto = length-take (upto - from) (drop from xs) ∙ ap (min (upto - from)) (length-drop from xs)
 
-pub slice-same : (old new : List ℕ) (from upto : ℕ) → length new ≡ length old → Keeps old new from upto → slice_range new from upto ≡ slice_range old from upto
+pub slice-same : (old new : List ℕ) (from upto : ℕ) → length new ≡ length old → KeepsBytes old new from upto → slice_range new from upto ≡ slice_range old from upto
 slice-same old new from upto same keeps =
     ext_get_or 0 (slice_range new from upto) (slice_range old from upto)
     (length-slice new from upto ∙ (ap (λ n. min (upto - from) (n - from)) same ∙ sym (length-slice old from upto)))
@@ -36,7 +36,7 @@ slice-filled bytes p n room =
     slice-at filled p (p + n) i l ∙ (put_run-in 0 p n bytes (p + i) 0 (omega arith) (omega arith) (omega arith) ∙ sym (get_or-replicate n i 0 0 (omega arith))))
 
 -- the other bytes stay
-pub fill-keeps : (bytes : List ℕ) (b c : Block) → is_apart b c ≡ true → Keeps bytes (put_run 0 b.place b.len bytes) c.place (end_of c)
+pub fill-keeps : (bytes : List ℕ) (b c : Block) → is_apart b c ≡ true → KeepsBytes bytes (put_run 0 b.place b.len bytes) c.place (end_of c)
 fill-keeps bytes b c h = record {
   at = λ i from upto.
       let sides : (end_of b ≤ c.place) ⊎ (end_of c ≤ b.place) = grind (arith, nat_tests) in

@@ -7,14 +7,10 @@ use Rattle.space_core.specs.Memory.{Memory}
 use Rattle.layer_rules.specs.declared.Block.{Block}
 use Rattle.layer_rules.specs.Blocks.{is_apart}
 use Rattle.layer_rules.specs.Rows.{EachPair}
-use Rattle.layer_rules.specs.Ownership.{extent}
-use Rattle.layer_rules.specs.Layering.{Tree, kept_state, Stands, IsOutOf, AreApart, IsRoutedIn}
-use Rattle.layer_laws.specs.Covered.{IsLayer}
+use Rattle.layer_rules.specs.Layering.{LayerModel, kept_state, Stands, IsOutOf, AreApartIn, IsRoutedIn}
+use Rattle.layer_laws.specs.Lawful.{IsMade}
 use Rattle.layer_laws.specs.Standing.{extent_of}
-use Rattle.layer_laws.proofs.AfterCalls.{opens-as_fields}
-use Rattle.layer_laws.proofs.Writes.{out-placed}
-use Rattle.layer_laws.proofs.Routing.{out-routed}
-use Rattle.layer_laws.proofs.WithoutBytes.{extent-bytes}
+use Rattle.layer_laws.specs.Placement.{open-as_fields, out-placed, out-routed, kept-extent}
 use Rattle.heap_core.specs.declared.Named.{Named}
 use Rattle.heap_core.specs.World.{Live, live}
 use Rattle.heap_core.specs.Holding.{bytes_of, world_of}
@@ -28,23 +24,18 @@ each_pair-world R (x ∷ table) bytes h = (each-world (R x.block) table bytes h.
 
 pub held-run : HeldRun
 held-run t table m h = record {
-  proper = h.layer.proper;
-  covered = h.layer.covered;
-  opened = opens-as_fields t m ∙ h.opened;
+  made = h.layer;
+  opened = open-as_fields t m h.layer ∙ h.opened;
   sound = h.stands.sound;
   size = refl;
   out = each-world (IsOutOf t m) table m.bytes h.out;
   apart = each_pair-world (λ b c. is_apart (extent_of t m b) (extent_of t m c) ≡ true) table m.bytes
-      (each_pair-from (λ (x y : Named). AreApart t m x.block y.block) (λ (x y : Named). is_apart (extent_of t m x.block) (extent_of t m y.block) ≡ true) table (λ x y a. a.either) h.apart);
+      (each_pair-from (λ (x y : Named). AreApartIn t m x.block y.block) (λ (x y : Named). is_apart (extent_of t m x.block) (extent_of t m y.block) ≡ true) table (λ x y a. a.either) h.apart);
 }
 
--- the extent is read without the bytes
-kept-extent : (t : Tree) (m : Memory) (b : Block) → extent t.shape b (kept_state t) ≡ extent_of t m b
-kept-extent t m b = extent-bytes t.shape b t.fields [] m.bytes
-
-extent-short : (t : Tree) (m : Memory) (b : Block) → IsLayer t → Stands t m → IsOutOf t m b → (extent t.shape b (kept_state t)).len ≤ limit
+extent-short : (t : LayerModel) (m : Memory) (b : Block) → IsMade t.rules → Stands t m → IsOutOf t m b → (t.rules.extent b (kept_state t)).len ≤ limit
 extent-short t m b l h o =
-    let e = ap (λ (x : Block). x.len) (kept-extent t m b) in
+    let e = ap (λ (x : Block). x.len) (kept-extent t m b l) in
     let p = out-placed t m b l h o in
     omega (arith, e, p.room, h.memory.sizes, h.memory.cells)
 
@@ -63,7 +54,7 @@ sum-world f g (x ∷ table) bytes h =
     sum_by-cons f x table ∙ (ap (λ n. n + sum_by f table) (h x) ∙ (ap (λ n. g x.block + n) rest ∙ sym (sum_by-cons (λ (y : Live). g y.block) (live x.name x.block (bytes_of x.block bytes)) w)))
 
 pub extents-in_run : ExtentsInRun
-extents-in_run t table m = sum-world (extent_len t) (λ b. (extent_of t m b).len) table m.bytes (λ x. ap (λ (b : Block). b.len) (kept-extent t m x.block))
+extents-in_run t table m l = sum-world (extent_len t) (λ b. (extent_of t m b).len) table m.bytes (λ x. ap (λ (b : Block). b.len) (kept-extent t m x.block l))
 
 pub asked-in_run : AskedInRun
 asked-in_run t table m = sum-world (λ x. x.block.len) (λ b. b.len) table m.bytes (λ x. refl)

@@ -1,10 +1,8 @@
 pub mod ByteLemmas
 pub mod HeldLemmas
 pub mod NameLemmas
-pub mod OutSome
 pub mod RunSteps
 pub mod Stepping
-pub mod TableSizes
 pub mod WorldLemmas
 pub mod RunAnswers
 pub mod RunBlocks

@@ -2,27 +2,22 @@
 use Rattle.std.proofs.Common.{◌≡◌, refl, sym, ap, subst, ◌∙◌, ℕ, zero, suc, ◌<◌, ◌⊎◌, inl, inr, ◌↔◌, Bool, true, false, ◌||◌, nat_eq, nat_le, length, Option, Some, None, is_some, is_none, Ok, OnErr, arith}
 use Rattle.std.proofs.lemmas.Bool.Decides.{nat_tests}
 use Rattle.space_core.specs.Cells.{Cells}
-use Rattle.layer_rules.specs.Shape.{Shape}
+use Rattle.layer_rules.specs.Rules.{Rules}
 use Rattle.layer_rules.specs.State.{State}
 use Rattle.layer_rules.specs.After.{Placed}
-use Rattle.layer_rules.specs.Refusing.{refuses}
-use Rattle.layer_rules.specs.Serving.{alloc}
-use Rattle.layer_laws.proofs.Basics.{and-fst}
-use Rattle.layer_laws.proofs.NoneExactly.{none_exactly_from_0}
-use Rattle.layer_laws.proofs.TailLaws.{settled_tails}
 use Rattle.heap_core.specs.declared.Call.TheVariants.{Allocate, Free}
-use Rattle.heap_core.specs.declared.Answer.TheVariants as answers
 use Rattle.heap_core.specs.World.{World, Live, live_at}
 use Rattle.heap_core.specs.Performing.{Run, most_live, Performed, placed_under, allocated, allocated_unless, freed, performed}
 use Rattle.heap_core.specs.Steps.{IsHeldRun}
 use Rattle.heap_core.specs.RunFacts.{IsPlaced, FaultKeepsRun, NullExactly, PlacedElse}
+use Rattle.heap_core.specs.declared.Answer.TheVariants as answers
 
 -- ---- faults
 
 abbrev pub KeepsInFault : Run → Performed → Type 0
 KeepsInFault r p = OnErr p.0 (p.1 ≡ r)
 
-module _ (e : Shape) (r : Run) where
+module _ (e : Rules) (r : Run) where
   placed-no_fault : (name : ℕ) (s : State) (cells : Cells) (o : Option Placed) → KeepsInFault r (placed_under name r.world s cells o)
   placed-no_fault name s cells None = tt
   placed-no_fault name s cells (Some p) = tt
@@ -30,7 +25,7 @@ module _ (e : Shape) (r : Run) where
   allocate-fault : (name size : ℕ) (is_live too_many : Bool) → KeepsInFault r (allocated_unless is_live too_many e name size r)
   allocate-fault name size true too_many = refl
   allocate-fault name size false true = refl
-  allocate-fault name size false false = let x = alloc e size r.state r.cells in placed-no_fault name x.state x.cells x.answer
+  allocate-fault name size false false = let x = e.allocate size r.state r.cells in placed-no_fault name x.state x.cells x.answer
 
   free-fault : (name : ℕ) (o : Option Live) → KeepsInFault r (freed e name r o)
   free-fault name None = refl
@@ -43,15 +38,15 @@ fault-keeps_run e (Free name) r = free-fault e r name (live_at r.world name)
 
 -- ---- a new name, below the greatest number
 
-performed-fresh : (e : Shape) (name size : ℕ) (r : Run) → live_at r.world name ≡ None → length r.world < most_live → performed e (Allocate name size) r ≡ allocated e name size r
+performed-fresh : (e : Rules) (name size : ℕ) (r : Run) → live_at r.world name ≡ None → length r.world < most_live → performed e (Allocate name size) r ≡ allocated e name size r
 unfolding performed
 performed-fresh e name size r fresh room =
     let few : nat_le most_live (length r.world) ≡ false = grind (arith, nat_tests) in
     ap (λ o. allocated_unless (is_some o) (nat_le most_live (length r.world)) e name size r) fresh ∙ ap (λ b. allocated_unless false b e name size r) few
 
 -- no block exactly where 0 bytes are asked or the rule refuses
-none-by_rule : (e : Shape) (count leaves size : ℕ) (r : Run) → IsHeldRun e count leaves r → is_none (alloc e size r.state r.cells).answer ≡ (nat_eq size 0 || refuses e size r.state r.cells)
-none-by_rule e count leaves size r h = none_exactly_from_0 e size r.state r.cells (and-fst _ _ h.proper) (settled_tails e r.state r.cells h.sound.settled)
+none-by_rule : (e : Rules) (count leaves size : ℕ) (r : Run) → IsHeldRun e count leaves r → is_none (e.allocate size r.state r.cells).answer ≡ (nat_eq size 0 || e.refuses size r.state r.cells)
+none-by_rule e count leaves size r h = let k = h.made.regular.refusing in k.none size r.state r.cells (k.free_tails r.state r.cells h.sound.settled)
 
 abbrev pub IsRefusal : (size : ℕ) (refused : Bool) → Type 0
 IsRefusal size refused = (size ≡ 0) ⊎ (refused ≡ true)
@@ -76,8 +71,8 @@ null-exact name w s cells (Some p) size refused q =
 
 pub null-exactly : NullExactly
 null-exactly e count leaves name size r h fresh room =
-    let x = alloc e size r.state r.cells in
-    rw (performed-fresh e name size r fresh room) (null-exact name r.world x.state x.cells x.answer size (refuses e size r.state r.cells) (none-by_rule e count leaves size r h))
+    let x = e.allocate size r.state r.cells in
+    rw (performed-fresh e name size r fresh room) (null-exact name r.world x.state x.cells x.answer size (e.refuses size r.state r.cells) (none-by_rule e count leaves size r h))
 
 placed-by : (name : ℕ) (w : World) (s : State) (cells : Cells) (o : Option Placed) → is_none o ≡ false → IsPlaced (placed_under name w s cells o).0
 placed-by name w s cells None q = absurd (cc)
@@ -85,7 +80,7 @@ placed-by name w s cells (Some p) q = tt
 
 pub placed-else : PlacedElse
 placed-else e count leaves name size r h fresh room some serves =
-    let x = alloc e size r.state r.cells in
+    let x = e.allocate size r.state r.cells in
     let asks : nat_eq size 0 ≡ false = grind (arith, nat_tests) in
-    let no : is_none x.answer ≡ false = none-by_rule e count leaves size r h ∙ (ap (λ t. t || refuses e size r.state r.cells) asks ∙ serves) in
+    let no : is_none x.answer ≡ false = none-by_rule e count leaves size r h ∙ (ap (λ t. t || e.refuses size r.state r.cells) asks ∙ serves) in
     rw (performed-fresh e name size r fresh room) (placed-by name r.world x.state x.cells x.answer no)

@@ -4,23 +4,15 @@ use Rattle.std.proofs.lemmas.Bool.Decides.{nat_tests}
 use Rattle.space_core.specs.Cells.{cell_size}
 use Rattle.layer_rules.specs.Blocks.{end_of, lies_in, is_apart}
 use Rattle.layer_rules.specs.Rows.{Each, EachPair}
-use Rattle.layer_rules.specs.Offering.{alignment}
-use Rattle.layer_rules.specs.Ownership.{extent}
-use Rattle.layer_rules.specs.Occupancy.{is_out}
-use Rattle.layer_rules.specs.Shape.{Shape}
-use Rattle.layer_laws.proofs.Basics.{and-fst}
-use Rattle.layer_laws.proofs.Wellness.{IsWell}
-use Rattle.layer_laws.proofs.Properness.{well-from}
-use Rattle.layer_laws.proofs.Covering.{covers}
-use Rattle.layer_laws.proofs.Aligned.{aligned}
-use Rattle.layer_laws.proofs.CellRooms.{rest_of_multiple}
-use Rattle.layer_laws.proofs.Tags.{out-in_range}
+use Rattle.layer_rules.specs.Rules.{Rules, HasSomeTags}
+use Rattle.layer_laws.specs.CellRooms.{rest_of_multiple}
+use Rattle.layer_laws.specs.StandingLaws.{out-in_range}
+use Rattle.layer_laws.specs.Lawful.{IsLawful}
 use Rattle.heap_core.specs.World.{World, Live, live_at}
 use Rattle.heap_core.specs.Performing.{Run}
 use Rattle.heap_core.specs.Steps.{IsHeldRun}
 use Rattle.heap_core.specs.RunFacts.{RunHasBlocks, NamesShareNoByte}
 use Rattle.heap_core.proofs.ByteLemmas.{inner-apart, apart-flip}
-use Rattle.heap_core.proofs.OutSome.{out-some}
 use Rattle.heap_core.proofs.WorldLemmas.{each-from, each-both, each-live_other}
 
 -- what two blocks of which P holds make of R
@@ -28,37 +20,41 @@ pub each_pair-under : (P : Live → Type 0) (R S : Live → Live → Type 0) (w 
 each_pair-under P R S [] f h k = tt
 each_pair-under P R S (x ∷ w) f h k = (each-both P (R x) (S x) w (λ y p r. f x y h.0 p r) h.1 k.0, each_pair-under P R S w f h.1 k.1)
 
-module _ (e : Shape) (count leaves : ℕ) (r : Run) (h : IsHeldRun e count leaves r) where
-  well : IsWell e
-  well = well-from e (and-fst _ _ h.proper) h.sound.distinct h.sound.made.least h.covered
+module _ (e : Rules) (count leaves : ℕ) (r : Run) (h : IsHeldRun e count leaves r) where
+  tags : HasSomeTags e
+  tags = record { least = h.sound.made.least }
+
+  law : IsLawful e
+  law = h.made.lawful h.sound.distinct tags
 
   abbrev Out : Live → Type 0
-  Out x = is_out e x.block r.state r.cells ≡ true
+  Out x = e.is_out x.block r.state r.cells ≡ true
 
-  in-extent : (x : Live) → Out x → lies_in x.block (extent e x.block r.state) ≡ true
+  in-extent : (x : Live) → Out x → lies_in x.block (e.extent x.block r.state) ≡ true
   in-extent x o =
-      let c = covers e well x.block r.state r.cells h.sound.settled o in
+      let c = law.placing.covers x.block r.state r.cells h.sound.settled o in
       let from = c.from in
       let upto = c.upto in
       grind (arith, nat_tests)
 
   in-area : (x : Live) → Out x → end_of x.block ≤ cell_size * count
-  in-area x o = let l = out-in_range e well x.block r.state r.cells h.sound.settled o in omega (arith, l, h.size)
+  in-area x o = let l = out-in_range e tags law.placing.covers x.block r.state r.cells h.sound.settled o in omega (arith, l, h.size)
 
-  at-multiple : (x : Live) → Out x → x.block.place % alignment e ≡ 0
-  at-multiple x o = rest_of_multiple x.block.place (alignment e) (aligned e (and-fst _ _ h.proper) well x.block r.state r.cells h.sound.settled o)
+  at-multiple : (x : Live) → Out x → x.block.place % e.alignment ≡ 0
+  at-multiple x o = rest_of_multiple x.block.place e.alignment (law.placing.aligned x.block r.state r.cells h.sound.settled o)
 
-  share-none : (x y : Live) → Out x → Out y → is_apart (extent e x.block r.state) (extent e y.block r.state) ≡ true → is_apart x.block y.block ≡ true
-  share-none x y o p a = inner-apart x.block y.block (extent e x.block r.state) (extent e y.block r.state) (in-extent x o) (in-extent y p) a
+  share-none : (x y : Live) → Out x → Out y → is_apart (e.extent x.block r.state) (e.extent y.block r.state) ≡ true → is_apart x.block y.block ≡ true
+  share-none x y o p a = inner-apart x.block y.block (e.extent x.block r.state) (e.extent y.block r.state) (in-extent x o) (in-extent y p) a
 
 pub run-has_blocks : RunHasBlocks
 run-has_blocks e count leaves r h =
-    let out : Live → Type 0 = λ x. is_out e x.block r.state r.cells ≡ true in
+    let out : Live → Type 0 = λ x. e.is_out x.block r.state r.cells ≡ true in
+    let law = h.made.lawful h.sound.distinct (record { least = h.sound.made.least }) in
     record {
-      some = each-from out (λ (x : Live). 1 ≤ x.block.len) r.world (λ x o. out-some e x.block r.state r.cells o) h.out;
+      some = each-from out (λ (x : Live). 1 ≤ x.block.len) r.world (λ x o. law.keeping.out_some x.block r.state r.cells o) h.out;
       inside = each-from out (λ (x : Live). end_of x.block ≤ cell_size * count) r.world (in-area e count leaves r h) h.out;
-      aligned = each-from out (λ (x : Live). x.block.place % alignment e ≡ 0) r.world (at-multiple e count leaves r h) h.out;
-      apart = each_pair-under out (λ (x y : Live). is_apart (extent e x.block r.state) (extent e y.block r.state) ≡ true) (λ (x y : Live). is_apart x.block y.block ≡ true) r.world
+      aligned = each-from out (λ (x : Live). x.block.place % e.alignment ≡ 0) r.world (at-multiple e count leaves r h) h.out;
+      apart = each_pair-under out (λ (x y : Live). is_apart (e.extent x.block r.state) (e.extent y.block r.state) ≡ true) (λ (x y : Live). is_apart x.block y.block ≡ true) r.world
           (share-none e count leaves r h) h.out h.apart;
     }
 

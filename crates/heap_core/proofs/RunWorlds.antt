@@ -6,16 +6,12 @@ use Rattle.space_core.specs.Cells.{Cells}
 use Rattle.layer_rules.specs.declared.Block.{Block}
 use Rattle.layer_rules.specs.Blocks.{end_of}
 use Rattle.layer_rules.specs.Rows.{Each, EachPair}
-use Rattle.layer_rules.specs.Shape.{Shape}
+use Rattle.layer_rules.specs.Rules.{Rules}
 use Rattle.layer_rules.specs.State.{State}
 use Rattle.layer_rules.specs.After.{Placed}
-use Rattle.layer_rules.specs.Serving.{alloc}
 use Rattle.layer_rules.specs.Layering.{IsOutOf}
-use Rattle.layer_laws.proofs.Basics.{and-fst}
-use Rattle.layer_laws.proofs.Properness.{well-from}
-use Rattle.layer_laws.proofs.Tags.{no-cell}
-use Rattle.layer_laws.proofs.Opens.{open-fresh}
-use Rattle.layer_laws.proofs.Writes.{out-in_space}
+use Rattle.layer_laws.specs.StandingLaws.{out-in_space}
+use Rattle.heap_core.proofs.RunSteps.{opened-held_run}
 use Rattle.heap_core.specs.declared.Named.{Named}
 use Rattle.heap_core.specs.declared.Call.{Call}
 use Rattle.heap_core.specs.declared.Call.TheVariants.{Allocate, Free}
@@ -25,7 +21,6 @@ use Rattle.heap_core.specs.Performing.{Run, most_live, placed_under, allocated_u
 use Rattle.heap_core.specs.Holding.{bytes_of, world_of}
 use Rattle.heap_core.specs.RunFacts.{IsWorld, IsZeroed, RunBegins, RunGoesOn, HeldIsRun, ZerosStay}
 use Rattle.heap_core.proofs.NameLemmas.{IsRising}
-use Rattle.heap_core.proofs.TableSizes.{OpensCount, open-count}
 use Rattle.heap_core.proofs.WorldLemmas.{length-world, each-from, each-live_with, each-live_without, each_pair-live_without}
 use Rattle.heap_core.proofs.HeldLemmas.{held-run}
 use Rattle.heap_core.proofs.RunSteps.{performed-held}
@@ -40,7 +35,7 @@ pub record IsKept (P : World → Type 0) : Type 0 where
   pub more : (w : World) (name : ℕ) (b : Block) → live_at w name ≡ None → nat_le most_live (length w) ≡ false → P w → P (with_live (new_live name b) w)
   pub less : (w : World) (name : ℕ) → P w → P (without name w)
 
-module _ (P : World → Type 0) (k : IsKept P) (e : Shape) (r : Run) (p : P r.world) where
+module _ (P : World → Type 0) (k : IsKept P) (e : Rules) (r : Run) (p : P r.world) where
   placed-kept : (name : ℕ) (s : State) (cells : Cells) (o : Option Placed) → live_at r.world name ≡ None → nat_le most_live (length r.world) ≡ false → P (placed_under name r.world s cells o).1.world
   placed-kept name s cells None q few = p
   placed-kept name s cells (Some x) q few = k.more r.world name x.block q few p
@@ -48,13 +43,13 @@ module _ (P : World → Type 0) (k : IsKept P) (e : Shape) (r : Run) (p : P r.wo
   allocate-kept : (name size : ℕ) (o : Option Live) (many : Bool) → live_at r.world name ≡ o → nat_le most_live (length r.world) ≡ many → P (allocated_unless (is_some o) many e name size r).1.world
   allocate-kept name size (Some x) many q few = p
   allocate-kept name size None true q few = p
-  allocate-kept name size None false q few = let x = alloc e size r.state r.cells in placed-kept name x.state x.cells x.answer q few
+  allocate-kept name size None false q few = let x = e.allocate size r.state r.cells in placed-kept name x.state x.cells x.answer q few
 
   free-kept : (name : ℕ) (o : Option Live) → P (freed e name r o).1.world
   free-kept name None = p
   free-kept name (Some x) = k.less r.world name p
 
-pub performed-kept : (P : World → Type 0) → IsKept P → (e : Shape) (call : Call) (r : Run) → P r.world → P (performed e call r).1.world
+pub performed-kept : (P : World → Type 0) → IsKept P → (e : Rules) (call : Call) (r : Run) → P r.world → P (performed e call r).1.world
 unfolding performed
 performed-kept P k e (Allocate name size) r p = allocate-kept P k e r p name size (live_at r.world name) (nat_le most_live (length r.world)) refl refl
 performed-kept P k e (Free name) r p = free-kept P k e r p name (live_at r.world name)
@@ -144,12 +139,9 @@ zeros-stay e call r h = performed-kept IsZeroed zeros-kept e call r h
 -- ---- the first run
 
 pub run-begins : RunBegins
-run-begins e need cells leaves o p c d m n q =
-    let w = well-from e (and-fst _ _ p) d m.least c in
-    let fresh = open-fresh e w need cells o (no-cell e cells w n) q in
-    let size : length o.cells.tags ≡ length cells.tags = subst (OpensCount cells) q (open-count e c need cells) in
+run-begins e need cells leaves o p d m n q =
     record {
-      held = record { proper = p; covered = c; opened = fresh.is_set; sound = record { distinct = d; made = m; settled = fresh.settled }; size = size; out = tt; apart = tt };
+      held = opened-held_run e need cells leaves o p d m n q;
       world = record { rising = tt; most = omega arith; whole = tt };
     }
 

@@ -3,10 +3,8 @@ use Rattle.std.specs.Prelude.{ℕ, ◌≡◌, ◌≤◌, List, [], length, Resul
 use Rattle.space_core.specs.Memory.{Memory}
 use Rattle.size_round.specs.Sizes.{limit}
 use Rattle.layer_rules.specs.Rows.{Each}
-use Rattle.layer_rules.specs.Offering.{alignment}
-use Rattle.layer_rules.specs.Ownership.{extent}
 use Rattle.layer_rules.specs.After.{Opening}
-use Rattle.layer_rules.specs.Layering.{Tree, kept_state, IsRoutedIn}
+use Rattle.layer_rules.specs.Layering.{LayerModel, kept_state, IsRoutedIn}
 use Rattle.heap_core.specs.declared.Named.{Named}
 use Rattle.heap_core.specs.declared.Call.{Call}
 use Rattle.heap_core.specs.declared.Answer.{Answer}
@@ -19,8 +17,8 @@ use Rattle.heap_core.specs.Moves.{Moves}
 use Rattle.heap_core.specs.Holding.{world_of, run_in, Held}
 
 -- what contracts see of the root
-abbrev pub heap_tree : {L : Type 0} → (L → Tree) → Heap L → Tree
-heap_tree tree heap = tree heap.root
+abbrev pub heap_model : {L : Type 0} → (L → LayerModel) → Heap L → LayerModel
+heap_model tree heap = tree heap.root
 
 -- the live blocks in order of their names
 abbrev pub heap_table : {L : Type 0} → Heap L → List Named
@@ -38,19 +36,19 @@ IsMakeFault (Refused node) (Err refused) old new = (node ≡ refused) × (new.ce
 IsMakeFault (Refused node) (Ok o) old new = ⊥
 
 -- What a call does: the rule's answer and run; the heap is held again; a fault changes nothing.
-pub record Performs (t t' : Tree) (table table' : List Named) (m m' : Memory) (call : Call) (r : Result Answer CallFault) : Type 0 where
-  pub after : (r, run_in t' table' m') ≡ performed t.shape call (run_in t table m)
+pub record Performs (t t' : LayerModel) (table table' : List Named) (m m' : Memory) (call : Call) (r : Result Answer CallFault) : Type 0 where
+  pub after : (r, run_in t' table' m') ≡ performed t.rules call (run_in t table m)
   pub held : Held t' table' m'
   pub kind : IfOk r (IsAnswerTo call)
   pub fault : OnErr r ((run_in t' table' m' ≡ run_in t table m) × (m' ≡ m))
-  pub moves : IfOk r (λ answer. Moves (alignment t.shape) (length m.cells.tags) (world_of table m.bytes) call answer (world_of table' m'.bytes))
-  pub shape : t'.shape ≡ t.shape
+  pub moves : IfOk r (λ answer. Moves t.rules.alignment (length m.cells.tags) (world_of table m.bytes) call answer (world_of table' m'.bytes))
+  pub shape : t'.rules ≡ t.rules
 
 -- how many bytes a block takes up where its route ends
-abbrev pub extent_len : Tree → Named → ℕ
-extent_len t x = (extent t.shape x.block (kept_state t)).len
+abbrev pub extent_len : LayerModel → Named → ℕ
+extent_len t x = (t.rules.extent x.block (kept_state t)).len
 
 -- each live block is routed, and takes up no more than a layer serves
-pub record AreMeasured (t : Tree) (table : List Named) : Type 0 where
+pub record AreMeasured (t : LayerModel) (table : List Named) : Type 0 where
   pub routed : Each (λ (x : Named). IsRoutedIn t x.block) table
   pub short : Each (λ (x : Named). extent_len t x ≤ limit) table

@@ -7,8 +7,8 @@ use Rattle.layer_rules.specs.Rows.{Each}
 use Rattle.heap_core.specs.declared.Call.{Call}
 use Rattle.heap_core.specs.declared.Call.TheVariants.{Allocate, Free}
 use Rattle.heap_core.specs.declared.Answer.{Answer}
-use Rattle.heap_core.specs.declared.Answer.TheVariants as answers
 use Rattle.heap_core.specs.World.{World, Live, live, live_at}
+use Rattle.heap_core.specs.declared.Answer.TheVariants as answers
 
 -- the block lies in an area of so many cells, and no byte of it is a live block's
 pub record Fits (cells : ℕ) (w : World) (b : Block) : Type 0 where

@@ -4,26 +4,21 @@ use Rattle.space_core.specs.Cells.{Cells, cell_size}
 use Rattle.space_core.specs.Memory.{Memory}
 use Rattle.layer_rules.specs.Blocks.{end_of, is_apart}
 use Rattle.layer_rules.specs.Rows.{Each, EachPair}
-use Rattle.layer_rules.specs.Shape.{Shape}
-use Rattle.layer_rules.specs.Proper.{is_tree}
-use Rattle.layer_rules.specs.Offering.{alignment}
-use Rattle.layer_rules.specs.Leaves.{HasDistinctTags, HasMadeTags, HasNoCells}
+use Rattle.layer_rules.specs.Rules.{Rules, HasDistinctTags, HasMadeTags, HasNoCells}
 use Rattle.layer_rules.specs.After.{Opened}
-use Rattle.layer_rules.specs.Refusing.{refuses}
-use Rattle.layer_rules.specs.Serving.{open_tree}
-use Rattle.layer_rules.specs.Layering.{Tree}
-use Rattle.layer_laws.specs.Covered.{IsCovered}
+use Rattle.layer_rules.specs.Layering.{LayerModel}
+use Rattle.layer_laws.specs.Lawful.{IsMade}
 use Rattle.heap_core.specs.declared.Named.{Named}
 use Rattle.heap_core.specs.declared.Call.{Call}
 use Rattle.heap_core.specs.declared.Call.TheVariants.{Allocate}
 use Rattle.heap_core.specs.declared.Answer.{Answer}
-use Rattle.heap_core.specs.declared.Answer.TheVariants as answers
 use Rattle.heap_core.specs.declared.CallFault.{CallFault}
 use Rattle.heap_core.specs.World.{World, Live, live_at}
 use Rattle.heap_core.specs.Names.{IsTable}
 use Rattle.heap_core.specs.Performing.{Run, run_of, most_live, performed}
 use Rattle.heap_core.specs.Holding.{run_in, Held}
 use Rattle.heap_core.specs.Steps.{IsHeldRun}
+use Rattle.heap_core.specs.declared.Answer.TheVariants as answers
 
 -- the names rise, there are at most 65,536, and each block has its bytes
 pub record IsWorld (w : World) : Type 0 where
@@ -32,7 +27,7 @@ pub record IsWorld (w : World) : Type 0 where
   pub whole : Each (λ (x : Live). length x.bytes ≡ x.block.len) w
 
 -- a run in which a heap can be
-pub record IsRun (e : Shape) (count leaves : ℕ) (r : Run) : Type 0 where
+pub record IsRun (e : Rules) (count leaves : ℕ) (r : Run) : Type 0 where
   pub held : IsHeldRun e count leaves r
   pub world : IsWorld r.world
 
@@ -57,45 +52,45 @@ IsPlaced _ = ⊥
 -- what a root opens with is a run, where no cell has a tag of its leaves
 abbrev pub RunBegins : Type 0
 RunBegins =
-    (e : Shape) (need : ℕ) (cells : Cells) (leaves : ℕ) (o : Opened) → is_tree e ≡ true → IsCovered e → HasDistinctTags e → HasMadeTags leaves e → HasNoCells e cells
-    → open_tree e need cells ≡ Ok o → IsRun e (length cells.tags) leaves (run_of o.state o.cells [])
+    (e : Rules) (need : ℕ) (cells : Cells) (leaves : ℕ) (o : Opened) → IsMade e → HasDistinctTags e → HasMadeTags leaves e → HasNoCells e cells
+    → e.set_up need cells ≡ Ok o → IsRun e (length cells.tags) leaves (run_of o.state o.cells [])
 
 -- so is what stands after a call, performed or in fault
 abbrev pub RunGoesOn : Type 0
-RunGoesOn = (e : Shape) (count leaves : ℕ) (call : Call) (r : Run) → IsRun e count leaves r → IsRun e count leaves (performed e call r).1
+RunGoesOn = (e : Rules) (count leaves : ℕ) (call : Call) (r : Run) → IsRun e count leaves r → IsRun e count leaves (performed e call r).1
 
 -- so is what a heap holds in its Space
 abbrev pub HeldIsRun : Type 0
-HeldIsRun = (t : Tree) (table : List Named) (m : Memory) → IsTable table → Held t table m → IsRun t.shape (length m.cells.tags) m.leaves (run_in t table m)
+HeldIsRun = (t : LayerModel) (table : List Named) (m : Memory) → IsTable table → Held t table m → IsRun t.rules (length m.cells.tags) m.leaves (run_in t table m)
 
 -- a block comes with zeros, and no call writes
 abbrev pub ZerosStay : Type 0
-ZerosStay = (e : Shape) (call : Call) (r : Run) → IsZeroed r.world → IsZeroed (performed e call r).1.world
+ZerosStay = (e : Rules) (call : Call) (r : Run) → IsZeroed r.world → IsZeroed (performed e call r).1.world
 
 -- the blocks of a run are in their area, and apart
 abbrev pub RunHasBlocks : Type 0
-RunHasBlocks = (e : Shape) (count leaves : ℕ) (r : Run) → IsHeldRun e count leaves r → AreBlocks (alignment e) count r.world
+RunHasBlocks = (e : Rules) (count leaves : ℕ) (r : Run) → IsHeldRun e count leaves r → AreBlocks e.alignment count r.world
 
 -- so two live names have no byte in common
 abbrev pub NamesShareNoByte : Type 0
 NamesShareNoByte =
-    (e : Shape) (count leaves : ℕ) (r : Run) → IsHeldRun e count leaves r → (name other : ℕ) (x y : Live) → name ≢ other
+    (e : Rules) (count leaves : ℕ) (r : Run) → IsHeldRun e count leaves r → (name other : ℕ) (x y : Live) → name ≢ other
     → live_at r.world name ≡ Some x → live_at r.world other ≡ Some y → is_apart x.block y.block ≡ true
 
 -- ---- laws of answers
 
 -- a fault changes nothing
 abbrev pub FaultKeepsRun : Type 0
-FaultKeepsRun = (e : Shape) (call : Call) (r : Run) → OnErr (performed e call r).0 ((performed e call r).1 ≡ r)
+FaultKeepsRun = (e : Rules) (call : Call) (r : Run) → OnErr (performed e call r).0 ((performed e call r).1 ≡ r)
 
 -- Under a new name, while fewer than 65,536 are live, the answer is no block exactly where 0 bytes are asked or the root refuses.
 abbrev pub NullExactly : Type 0
 NullExactly =
-    (e : Shape) (count leaves name size : ℕ) (r : Run) → IsHeldRun e count leaves r → live_at r.world name ≡ None → length r.world < most_live
-    → ((performed e (Allocate name size) r).0 ≡ Ok answers.Null) ↔ ((size ≡ 0) ⊎ (refuses e size r.state r.cells ≡ true))
+    (e : Rules) (count leaves name size : ℕ) (r : Run) → IsHeldRun e count leaves r → live_at r.world name ≡ None → length r.world < most_live
+    → ((performed e (Allocate name size) r).0 ≡ Ok answers.Null) ↔ ((size ≡ 0) ⊎ (e.refuses size r.state r.cells ≡ true))
 
 -- Elsewhere a block is served.
 abbrev pub PlacedElse : Type 0
 PlacedElse =
-    (e : Shape) (count leaves name size : ℕ) (r : Run) → IsHeldRun e count leaves r → live_at r.world name ≡ None → length r.world < most_live
-    → 1 ≤ size → refuses e size r.state r.cells ≡ false → IsPlaced (performed e (Allocate name size) r).0
+    (e : Rules) (count leaves name size : ℕ) (r : Run) → IsHeldRun e count leaves r → live_at r.world name ≡ None → length r.world < most_live
+    → 1 ≤ size → e.refuses size r.state r.cells ≡ false → IsPlaced (performed e (Allocate name size) r).0

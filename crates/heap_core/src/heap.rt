@@ -1,7 +1,5 @@
 //! The heap: blocks of a root layer, by name.
 ghost use Rattle.std.specs.Prelude.{◌≡◌, length, IfOk, IfErr, OnErr, sum_by};
-ghost use Rattle.layer_rules.specs.Offering.{alignment};
-ghost use Rattle.layer_rules.specs.Serving.{open_tree};
 ghost use Rattle.layer_rules.specs.Layering.{Stands, IsShut};
 ghost use Rattle.heap_core.specs.Performing.{performed, IsAnswerTo};
 ghost use Rattle.heap_core.specs.Moves.{Moves};
@@ -38,7 +36,7 @@ pub struct Heap<L: Layer> {
 }
 
 impl<L: Layer> Heap<L> {
-    ghost use Rattle.heap_core.specs.Heap.{heap_tree, heap_table, Begins, IsMakeFault, Performs, AreMeasured, extent_len};
+    ghost use Rattle.heap_core.specs.Heap.{heap_model, heap_table, Begins, IsMakeFault, Performs, AreMeasured, extent_len};
 
     /// A heap with no block, over a root that stands closed in the Space. It opens the root.
     ///
@@ -46,12 +44,12 @@ impl<L: Layer> Heap<L> {
     /// `NoMemory` where the process has no memory for the names, and then the Space is as before.
     /// `Refused` with the node that can't be opened, and then the table of cells is as before.
     pub fn make(alloc: Global, root: L, space: &mut Space) -> Result<Heap<L>, MakeFault>
-        requires stands { Stands (L.tree root) space.old }
-        requires shut { IsShut (L.tree root) }
-        ensures opened { IfOk result (λ heap. Begins (open_tree (L.tree root).shape 0 space.old.cells) (run_in (heap_tree L.tree heap) (heap_table heap) space.new)) }
-        ensures shape { IfOk result (λ heap. (heap_tree L.tree heap).shape ≡ (L.tree root).shape) }
-        ensures held { IfOk result (λ heap. Held (heap_tree L.tree heap) (heap_table heap) space.new) }
-        ensures fault { IfErr result (λ fault. IsMakeFault fault (open_tree (L.tree root).shape 0 space.old.cells) space.old space.new) }
+        requires stands { Stands (L.model root) space.old }
+        requires shut { IsShut (L.model root) }
+        ensures opened { IfOk result (λ heap. Begins ((L.model root).rules.set_up 0 space.old.cells) (run_in (heap_model L.model heap) (heap_table heap) space.new)) }
+        ensures rules { IfOk result (λ heap. (heap_model L.model heap).rules ≡ (L.model root).rules) }
+        ensures held { IfOk result (λ heap. Held (heap_model L.model heap) (heap_table heap) space.new) }
+        ensures fault { IfErr result (λ fault. IsMakeFault fault ((L.model root).rules.set_up 0 space.old.cells) space.old space.new) }
     {
         let mut root = root;
         let Ok(table) = Table::new(alloc) else {
@@ -71,13 +69,13 @@ impl<L: Layer> Heap<L> {
     /// `NameLive` or `TooManyLive` for a new block, `NameNotLive` for one that is given back. The
     /// heap and the Space are as before then.
     pub fn perform(&mut self, space: &mut Space, call: &Call) -> Result<Answer, CallFault>
-        requires { Held (heap_tree L.tree self.old) (heap_table self.old) space.old }
-        ensures after { (result, run_in (heap_tree L.tree self.new) (heap_table self.new) space.new) ≡ performed (heap_tree L.tree self.old).shape call.now (run_in (heap_tree L.tree self.old) (heap_table self.old) space.old) }
-        ensures held { Held (heap_tree L.tree self.new) (heap_table self.new) space.new }
+        requires { Held (heap_model L.model self.old) (heap_table self.old) space.old }
+        ensures after { (result, run_in (heap_model L.model self.new) (heap_table self.new) space.new) ≡ performed (heap_model L.model self.old).rules call.now (run_in (heap_model L.model self.old) (heap_table self.old) space.old) }
+        ensures held { Held (heap_model L.model self.new) (heap_table self.new) space.new }
         ensures kind { IfOk result (IsAnswerTo call.now) }
-        ensures fault { OnErr result ((run_in (heap_tree L.tree self.new) (heap_table self.new) space.new ≡ run_in (heap_tree L.tree self.old) (heap_table self.old) space.old) × (space.new ≡ space.old)) }
-        ensures moves { IfOk result (λ answer. Moves (alignment (heap_tree L.tree self.old).shape) (length space.old.cells.tags) (world_of (heap_table self.old) space.old.bytes) call.now answer (world_of (heap_table self.new) space.new.bytes)) }
-        ensures shape { (heap_tree L.tree self.new).shape ≡ (heap_tree L.tree self.old).shape }
+        ensures fault { OnErr result ((run_in (heap_model L.model self.new) (heap_table self.new) space.new ≡ run_in (heap_model L.model self.old) (heap_table self.old) space.old) × (space.new ≡ space.old)) }
+        ensures moves { IfOk result (λ answer. Moves (heap_model L.model self.old).rules.alignment (length space.old.cells.tags) (world_of (heap_table self.old) space.old.bytes) call.now answer (world_of (heap_table self.new) space.new.bytes)) }
+        ensures rules { (heap_model L.model self.new).rules ≡ (heap_model L.model self.old).rules }
     {
         match *call {
             Call::Allocate { name, size } => self.allocate(space, name, size),
@@ -108,8 +106,8 @@ impl<L: Layer> Heap<L> {
 
     /// How many bytes the live blocks take up together where their routes end.
     pub fn extent(&self) -> u64
-        requires { AreMeasured (heap_tree L.tree self.now) (heap_table self.now) }
-        ensures { result ≡ sum_by (extent_len (heap_tree L.tree self.now)) (heap_table self.now) }
+        requires { AreMeasured (heap_model L.model self.now) (heap_table self.now) }
+        ensures { result ≡ sum_by (extent_len (heap_model L.model self.now)) (heap_table self.now) }
     {
         let mut total = 0;
         for named in self.table.entries() {
@@ -120,15 +118,15 @@ impl<L: Layer> Heap<L> {
 
     /// The root layer.
     pub fn root(&self) -> &L
-        ensures { L.tree result.now ≡ heap_tree L.tree self.now }
+        ensures { L.model result.now ≡ heap_model L.model self.now }
     {
         &self.root
     }
 
     // A block under a new name.
     fn allocate(&mut self, space: &mut Space, name: u32, size: u64) -> Result<Answer, CallFault>
-        requires { Held (heap_tree L.tree self.old) (heap_table self.old) space.old }
-        ensures { Performs (heap_tree L.tree self.old) (heap_tree L.tree self.new) (heap_table self.old) (heap_table self.new) space.old space.new (Call.Allocate name size) result }
+        requires { Held (heap_model L.model self.old) (heap_table self.old) space.old }
+        ensures { Performs (heap_model L.model self.old) (heap_model L.model self.new) (heap_table self.old) (heap_table self.new) space.old space.new (Call.Allocate name size) result }
     {
         if self.table.find(name).is_some() {
             return Err(CallFault::NameLive);
@@ -148,8 +146,8 @@ impl<L: Layer> Heap<L> {
 
     // The block of a name is given back.
     fn free(&mut self, space: &mut Space, name: u32) -> Result<Answer, CallFault>
-        requires { Held (heap_tree L.tree self.old) (heap_table self.old) space.old }
-        ensures { Performs (heap_tree L.tree self.old) (heap_tree L.tree self.new) (heap_table self.old) (heap_table self.new) space.old space.new (Call.Free name) result }
+        requires { Held (heap_model L.model self.old) (heap_table self.old) space.old }
+        ensures { Performs (heap_model L.model self.old) (heap_model L.model self.new) (heap_table self.old) (heap_table self.new) space.old space.new (Call.Free name) result }
     {
         match self.table.remove(name) {
             None => Err(CallFault::NameNotLive),

@@ -54,16 +54,13 @@ pub struct Named {
 #[cfg(test)]
 mod tests {
     use super::*;
-    use layer_core::Layer;
-    use space_core::Space;
+    use layer_core::{Layer, space_and_leaf};
     use std::test::Fail;
 
     // A leaf over 4 cells of 64 bytes serves the least free run, at multiples of 64.
     #[test]
     fn serves_by_name(rt: HostRuntime) -> Result<(), Fail> {
-        let mut space = Space::closed();
-        space.set_up(rt.alloc(), 4)?;
-        let leaf = space.new_leaf().expect(&rt, "a leaf");
+        let (mut space, leaf) = space_and_leaf(rt.alloc(), 4)?;
         let mut heap = Heap::make(rt.alloc(), leaf, &mut space).expect(&rt, "a heap");
         let first = heap.perform(&mut space, &Call::Allocate { name: 7, size: 100 });
         assert_eq!(rt; first, Ok(Answer::Placed { place: 0 }));

@@ -1,4 +1,5 @@
-pub mod LeafShape
-pub mod LeafTree
-pub mod NullShape
-pub mod NullTree
+pub mod Between
+pub mod LeafMade
+pub mod LeafModel
+pub mod NullMade
+pub mod NullModel

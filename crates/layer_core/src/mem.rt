@@ -4,10 +4,10 @@ use size_round::{LIMIT, up};
 use space_core::{CELL_SIZE, Space};
 
 impl Layer for Mem {
-    ghost use Rattle.layer_core.specs.LeafTree.{leaf_tree};
-    ghost use Rattle.layer_core.specs.LeafShape.{leaf_shaped};
+    ghost use Rattle.layer_core.specs.LeafModel.{leaf_model};
+    ghost use Rattle.layer_core.specs.LeafMade.{leaf_made};
 
-    ghost tree = { leaf_tree };
+    ghost model = { leaf_model };
 
     fn nodes(&self) -> u32 {
         1
@@ -76,5 +76,5 @@ impl Layer for Mem {
         }
     }
 
-    ghost shaped = { λ l. leaf_shaped l };
+    ghost made = { λ l. leaf_made l };
 }

@@ -4,31 +4,31 @@ ghost use Rattle.std.specs.Prelude.{◌≡◌};
 use crate::{Block, Fact, Layer, Offers, Refused};
 use space_core::Space;
 
-/// A layer that serves nothing: the end of a tree of layers, or of one of its branches.
+/// A layer that serves nothing: the end of a composition, or of one of its branches.
 #[derive(Drop)]
 pub struct NullLayer {
     is_set: bool,
 }
 
 impl NullLayer {
-    ghost use Rattle.layer_core.specs.NullTree.{null_tree};
+    ghost use Rattle.layer_core.specs.NullModel.{null_model};
     ghost use Rattle.layer_rules.specs.Layering.{IsShut};
-    ghost use Rattle.layer_rules.specs.Shape.{null};
+    ghost use Rattle.layer_rules.specs.NullRules.{null_rules};
 
     /// A closed null layer.
     pub fn new() -> NullLayer
-        ensures shape { (null_tree result).shape ≡ null }
-        ensures shut { IsShut (null_tree result) }
+        ensures rules { (null_model result).rules ≡ null_rules }
+        ensures shut { IsShut (null_model result) }
     {
         NullLayer { is_set: false }
     }
 }
 
 impl Layer for NullLayer {
-    ghost use Rattle.layer_core.specs.NullTree.{null_tree};
-    ghost use Rattle.layer_core.specs.NullShape.{null_shaped};
+    ghost use Rattle.layer_core.specs.NullModel.{null_model};
+    ghost use Rattle.layer_core.specs.NullMade.{null_made};
 
-    ghost tree = { null_tree };
+    ghost model = { null_model };
 
     fn nodes(&self) -> u32 {
         1
@@ -68,12 +68,10 @@ impl Layer for NullLayer {
         None
     }
 
-    #[tactic(auto, unfolding(layer_rules::specs::Occupancy::is_out))]
     fn deallocate(&mut self, _space: &mut Space, _b: Block) -> bool {
         unreachable!()
     }
 
-    #[tactic(auto, unfolding(layer_rules::specs::Ownership::is_routed))]
     fn extent(&self, _b: Block) -> u64 {
         unreachable!()
     }
@@ -86,5 +84,5 @@ impl Layer for NullLayer {
         }
     }
 
-    ghost shaped = { λ l. null_shaped l };
+    ghost made = { λ l. null_made l };
 }

@@ -1,12 +1,8 @@
 -- UnitMeanings: what the runs of units, the first run, the least run of cells and the least free place are, in words.
-use Rattle.std.specs.Prelude.{◌≡◌, ℕ, ◌+◌, ◌-◌, ◌*◌, ◌/◌, ◌<◌, ◌≤◌, ◌↔◌, Bool, true, false, List, length, Some, None, not, count_by, slice_get}
+use Rattle.std.specs.Prelude.{◌≡◌, ℕ, ◌+◌, ◌-◌, ◌*◌, ◌<◌, ◌≤◌, ◌↔◌, Bool, true, false, List, length, Some, None, not, count_by, slice_get}
 use Rattle.size_round.specs.Sizes.{ceil_div}
 use Rattle.space_core.specs.Runs.{is_free_run, is_taken_run, first_run, put_run, free_count, first_place}
 use Rattle.space_core.specs.Cells.{Cells, cell_size, taken_cells, cells_with, least_cells, cell_at, has_tag}
-use Rattle.layer_rules.specs.declared.Block.{Block}
-use Rattle.layer_rules.specs.Blocks.{block, has_place}
-use Rattle.layer_rules.specs.State.{State, base_of, units_of}
-use Rattle.layer_rules.specs.Serving.{units_free, free_place, bitmap_place_at}
 use Rattle.size_round.specs.SizeMeanings.{IsMultiple, IsPower}
 
 -- ---- runs
@@ -102,31 +98,3 @@ FirstPlaceIsFirst = (test : ℕ → Bool) (step steps p q : ℕ) → first_place
 
 abbrev pub NoFirstPlace : Type 0
 NoFirstPlace = (test : ℕ → Bool) (step steps p : ℕ) → first_place test step steps p ≡ None → (j : ℕ) → j ≤ steps → test (p + j * step) ≡ false
-
--- the units that a block touches are free exactly where each of its bytes lies in a unit that is there and free
-abbrev pub UnitsFreeByBytes : Type 0
-UnitsFreeByBytes = (unit base : ℕ) (us : List Bool) (b : Block) → 1 ≤ unit → 1 ≤ b.len → base ≤ b.place → (units_free unit base us b ≡ true) ↔ ((k : ℕ) → has_place b k ≡ true → slice_get us ((k - base) / unit) ≡ Some false)
-
--- The place p is a multiple of a, at or above the base, and the units that n bytes touch there are there and free; no less such multiple is.
-pub record IsLeastPlace (unit n a base : ℕ) (us : List Bool) (p : ℕ) : Type 0 where
-  pub aligned : IsMultiple p a
-  pub above : base ≤ p
-  pub free : units_free unit base us (block p n) ≡ true
-  pub least : (q : ℕ) → IsMultiple q a → base ≤ q → q < p → units_free unit base us (block q n) ≡ false
-
--- no multiple of a at or above the base has free units for n bytes
-abbrev pub HasNoPlace : (unit n a base : ℕ) → List Bool → Type 0
-HasNoPlace unit n a base us = (q : ℕ) → IsMultiple q a → base ≤ q → units_free unit base us (block q n) ≡ false
-
--- what free_place finds is the least such place, and where it finds none there is none; so for a bitmap
-abbrev pub FreePlaceIsLeast : Type 0
-FreePlaceIsLeast = (unit n a base : ℕ) (us : List Bool) (p : ℕ) → 1 ≤ a → free_place unit n a base us ≡ Some p → IsLeastPlace unit n a base us p
-
-abbrev pub NoFreePlace : Type 0
-NoFreePlace = (unit n a base : ℕ) (us : List Bool) → 1 ≤ unit → 1 ≤ n → 1 ≤ a → free_place unit n a base us ≡ None → HasNoPlace unit n a base us
-
-abbrev pub BitmapPlaceIsLeast : Type 0
-BitmapPlaceIsLeast = (unit n a : ℕ) (s : State) (p : ℕ) → 1 ≤ a → bitmap_place_at unit n a s ≡ Some p → IsLeastPlace unit n a (base_of s) (units_of s) p
-
-abbrev pub NoBitmapPlace : Type 0
-NoBitmapPlace = (unit n a : ℕ) (s : State) → 1 ≤ unit → 1 ≤ n → 1 ≤ a → bitmap_place_at unit n a s ≡ None → HasNoPlace unit n a (base_of s) (units_of s)

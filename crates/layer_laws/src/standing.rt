@@ -1,6 +1,6 @@
 //! What callers may rest on: a layer stands after each call, and blocks that are out keep apart.
 
-ghost use Rattle.layer_laws.specs.Standing.{AllocateStands, AllocateGives, AllocateKeepsOut, AllocateKeepsExtents, DeallocateStands, DeallocateKeepsOut, DeallocateKeepsExtents, WriteStands, WriteKeepsState, WriteKeepsOut, WriteKeepsClean, WriteKeepsMarked, OutIsPlaced, OutIsInSpace, ApartShareNoByte, OutIsRouted, OutIsAligned, OpenAsFields, OutIsSetUp, ShutHasNoCells, ShutStands, SetUpStands, TearDownStands, SetUpChangesOwn, TearDownChangesOwn, AllocateChangesOwn, DeallocateChangesOwn, WriteChangesOwn, ChangesInTurn, MemberChangesOwn, OthersStand, OthersKeepState, OthersKeepOut, OthersKeepBytes, OthersKeepClean, OthersKeepMarked};
+ghost use Rattle.layer_laws.specs.Standing.{AllocateStands, AllocateGives, AllocateKeepsOut, AllocateKeepsExtents, DeallocateStands, DeallocateKeepsOut, DeallocateKeepsExtents, WriteLeaves, ExpandLeaves, DeallocateAllLeaves, OutIsPlaced, OutIsInSpace, ApartShareNoByte, OutIsRouted, OutIsAligned, OpenAsFields, OutIsSetUp, ShutHasNoCells, ShutStands, SetUpStands, TearDownStands, SetUpChangesOwn, TearDownChangesOwn, AllocateChangesOwn, DeallocateChangesOwn, WriteChangesOwn, ChangesInTurn, MemberChangesOwn, OthersStand, OthersKeepState, OthersKeepOut, OthersKeepBytes, OthersKeepClean, OthersKeepMarked};
 
 /// A layer that is asked for a block stands again; the new block is apart from all that were out, and these are out still.
 pub fn allocate_keeps()
@@ -17,16 +17,23 @@ pub fn deallocate_keeps()
     ensures extents { DeallocateKeepsExtents }
 {}
 
-/// Who writes into a block that is out, and nowhere else, harms no layer and no other block.
-pub fn write_keeps()
-    ensures stands { WriteStands }
-    ensures state { WriteKeepsState }
-    ensures out { WriteKeepsOut }
-    ensures clean { WriteKeepsClean }
-    ensures marked { WriteKeepsMarked }
+/// A layer whose block was to grow stands again; the block is out with the length that it has then, and apart from all that it was
+/// apart from.
+pub fn expand_keeps()
+    ensures { ExpandLeaves }
 {}
 
-/// A block that is out lies in its extent, and this in cells of the tree's leaves. Its place is aligned.
+/// A layer that gets all blocks back stands again, and none is out.
+pub fn deallocate_all_keeps()
+    ensures { DeallocateAllLeaves }
+{}
+
+/// Who writes into a block that is out, and nowhere else, harms no layer and no other block.
+pub fn write_keeps()
+    ensures { WriteLeaves }
+{}
+
+/// A block that is out lies in its extent, and this in cells of the layer's leaves. Its place is aligned.
 pub fn out_is_placed()
     ensures extent { OutIsPlaced }
     ensures space { OutIsInSpace }
@@ -49,7 +56,7 @@ pub fn lifetimes()
     ensures tear_down { TearDownStands }
 {}
 
-/// A call changes only free cells and its own tree's, and the bytes of such cells.
+/// A call changes only free cells and those of its own leaves, and the bytes of such cells.
 pub fn calls_change_own()
     ensures allocate { AllocateChangesOwn }
     ensures deallocate { DeallocateChangesOwn }
@@ -60,7 +67,7 @@ pub fn calls_change_own()
     ensures member { MemberChangesOwn }
 {}
 
-/// A tree with other leaves does not notice such a change.
+/// A layer with other leaves does not notice such a change.
 pub fn others_stand()
     ensures stands { OthersStand }
     ensures state { OthersKeepState }

@@ -1,8 +1,8 @@
--- What stands after a call: its answer, the layer's state and the table of cells.
-use Rattle.std.specs.Prelude.{ℕ, List, ◌∷◌, Option, None, Result, option_map, nat_eq, filter, not}
+-- What stands after a call: its answer, the layer's state and the table of cells; and what each kind of call is as a rule.
+use Rattle.layer_rules.specs.State.{State, child, with_child}
 use Rattle.layer_rules.specs.declared.Block.{Block}
 use Rattle.space_core.specs.Cells.{Cells}
-use Rattle.layer_rules.specs.State.{State, with_child, with_own, order_own, order_of}
+use Rattle.std.specs.Prelude.{Bool, List, None, Option, Result, option_map, ℕ, ◌∷◌}
 
 pub record After (A : Type 0) : Type 0 where
   pub answer : A
@@ -43,7 +43,7 @@ from_child shown i p = placed (shown p.block) (i ∷ p.route)
 abbrev pub serve_below : (shown : Block → Block) → ℕ → Serve → State → State → Cells → After (Option Placed)
 serve_below shown i serve s t cells = in_child s i (answering (option_map (from_child shown i)) (serve t cells))
 
--- an open tree and the table that it was opened in
+-- an open layer and the table that it was opened in
 pub record Opened : Type 0 where
   pub state : State
   pub cells : Cells
@@ -55,9 +55,36 @@ opened s cells = record { state = s; cells = cells }
 abbrev pub Opening : Type 0
 Opening = Result Opened ℕ
 
--- the order with i at its front
-abbrev pub to_front : ℕ → List ℕ → List ℕ
-to_front i order = i ∷ filter (λ j. not (nat_eq i j)) order
+-- what a call on a block does, with true or false for an answer
+abbrev pub Change : Type 0
+Change = Block → State → Cells → After Bool
 
-abbrev pub used_last : ℕ → State → State
-used_last i s = with_own s (order_own (to_front i (order_of s)))
+abbrev pub say : Bool → Change
+say answer b s cells = after answer s cells
+
+-- a call of the child i, on the block that it sees
+abbrev pub change_child : ℕ → Change → Change
+change_child i change b s cells = in_child s i (change b (child s i) cells)
+
+-- the block that stands then, no block after a reallocation to 0 bytes, or a refusal that leaves the block
+pub data Reallocated : Type 0 where
+  moved_to : Block → Reallocated
+  emptied : Reallocated
+  unmoved : Reallocated
+
+abbrev pub Reallocate : Type 0
+Reallocate = Block → State → Cells → After Reallocated
+
+abbrev pub stay : Reallocate
+stay b s cells = after unmoved s cells
+
+-- the answer of `owns`, and the state that stands then
+pub record Reply : Type 0 where
+  pub owned : Bool
+  pub state : State
+
+abbrev pub reply : Bool → State → Reply
+reply held s = record { owned = held; state = s }
+
+abbrev pub Owning : Type 0
+Owning = Block → State → Reply

@@ -1,6 +1,6 @@
 -- Blocks: a place and a length. A set of bytes is a test of a place.
-use Rattle.std.specs.Prelude.{ℕ, ◌+◌, Bool, ◌&&◌, ◌||◌, nat_le, nat_lt}
 use Rattle.layer_rules.specs.declared.Block.{Block}
+use Rattle.std.specs.Prelude.{Bool, nat_le, nat_lt, ℕ, ◌&&◌, ◌+◌, ◌||◌}
 
 abbrev pub block : (place len : ℕ) → Block
 block place len = record { place = place; len = len }
@@ -8,6 +8,10 @@ block place len = record { place = place; len = len }
 -- where nothing is known of a block
 abbrev pub no_block : Block
 no_block = block 0 0
+
+-- the same place with another length
+abbrev pub with_len : Block → ℕ → Block
+with_len b n = block b.place n
 
 -- the first place behind the block
 abbrev pub end_of : Block → ℕ

@@ -1,10 +1,9 @@
--- Fields: the numbers that the layers of a tree keep outside the Space, in their structs.
-use Rattle.std.specs.Prelude.{ℕ, zero, suc, ◌^◌, ◌-◌, Bool, true, false, List, [], ◌∷◌, ◌++◌}
+-- Fields: the numbers that the layers of a composition keep outside the Space, in their structs.
+use Rattle.layer_rules.specs.Blocks.{no_block}
+use Rattle.layer_rules.specs.State.{Mode, children, list_mode, region_mode, zero_stats}
 use Rattle.layer_rules.specs.declared.Block.{Block}
 use Rattle.layer_rules.specs.declared.Stats.{Stats}
-use Rattle.layer_rules.specs.Blocks.{no_block}
-use Rattle.layer_rules.specs.Shape.{Shape, null, mem, region, bitmap, kr, freelist, quantize, stats, affix, segregate, buckets, fallback, list, Shapes, no_members, member}
-use Rattle.layer_rules.specs.State.{Mode, region_mode, list_mode, zero_stats}
+use Rattle.std.specs.Prelude.{Bool, List, [], false, suc, true, zero, ℕ, ◌-◌, ◌^◌, ◌∷◌}
 
 -- the end of a chain
 abbrev pub chain_end : ℕ
@@ -21,6 +20,8 @@ pub data Kept : Type 0 where
   kept_cache : (count front : ℕ) → Kept
   kept_stats : Stats → Kept
   kept_order : List ℕ → Kept
+  -- the numbers of a form that no other knows
+  kept_row : List ℕ → Kept
 
 mutual
   pub data Fields : Type 0 where
@@ -90,7 +91,9 @@ abbrev pub kept_members : Kept → List ℕ
 kept_members (kept_order order) = order
 kept_members _ = []
 
--- ---- the numbers of each node in a row, as a dump of the tree writes them
+abbrev pub kept_row_of : Kept → List ℕ
+kept_row_of (kept_row numbers) = numbers
+kept_row_of _ = []
 
 abbrev pub mode_number : Mode → ℕ
 mode_number region_mode = 0
@@ -111,29 +114,9 @@ kept_numbers (kept_kr chunk mode position first) = chunk.place ∷ chunk.len ∷
 kept_numbers (kept_cache count front) = count ∷ front ∷ []
 kept_numbers (kept_stats counts) = stats_numbers counts
 kept_numbers (kept_order order) = order
+kept_numbers (kept_row numbers) = numbers
 
 -- a closed node has no number
 abbrev pub node_numbers : Fields → List ℕ
 node_numbers closed_fields = []
 node_numbers (open_fields kept children) = 1 ∷ kept_numbers kept
-
--- the numbers of each node, in preorder
-unfoldable mutual
-  pub state_numbers : Shape → Fields → List (List ℕ)
-  state_numbers null fs = node_numbers fs ∷ []
-  state_numbers (mem tag) fs = node_numbers fs ∷ []
-  state_numbers (region size align e) fs = node_numbers fs ∷ state_numbers e (child_fields fs 0)
-  state_numbers (bitmap unit count e) fs = node_numbers fs ∷ state_numbers e (child_fields fs 0)
-  state_numbers (kr size e) fs = node_numbers fs ∷ state_numbers e (child_fields fs 0)
-  state_numbers (freelist least greatest e) fs = node_numbers fs ∷ state_numbers e (child_fields fs 0)
-  state_numbers (quantize kind e) fs = node_numbers fs ∷ state_numbers e (child_fields fs 0)
-  state_numbers (stats e) fs = node_numbers fs ∷ state_numbers e (child_fields fs 0)
-  state_numbers (affix prefix suffix e) fs = node_numbers fs ∷ state_numbers e (child_fields fs 0)
-  state_numbers (segregate thresholds es) fs = node_numbers fs ∷ state_numbers_each es 0 fs
-  state_numbers (buckets least greatest step es) fs = node_numbers fs ∷ state_numbers_each es 0 fs
-  state_numbers (fallback p f) fs = node_numbers fs ∷ (state_numbers p (child_fields fs 0) ++ state_numbers f (child_fields fs 1))
-  state_numbers (list es) fs = node_numbers fs ∷ state_numbers_each es 0 fs
-
-  pub state_numbers_each : Shapes → ℕ → Fields → List (List ℕ)
-  state_numbers_each no_members i fs = []
-  state_numbers_each (member e es) i fs = state_numbers e (child_fields fs i) ++ state_numbers_each es (suc i) fs

@@ -1,9 +1,8 @@
--- States: what an open tree holds beside its shape. The units of a row are true where they are taken.
-use Rattle.std.specs.Prelude.{ℕ, zero, suc, Bool, true, false, List, [], ◌∷◌}
+-- States: what an open layer holds beside its rules. The units of a row are true where they are taken.
+use Rattle.layer_rules.specs.Blocks.{no_block}
 use Rattle.layer_rules.specs.declared.Block.{Block}
 use Rattle.layer_rules.specs.declared.Stats.{Stats}
-use Rattle.layer_rules.specs.Blocks.{no_block}
-use Rattle.layer_rules.specs.Shape.{Shapes, no_members, member}
+use Rattle.std.specs.Prelude.{Bool, List, [], false, suc, true, zero, ℕ, ◌∷◌}
 
 -- In region mode a kr serves from its tail first; in list mode from the least run of free units, the former tail among them.
 pub data Mode : Type 0 where
@@ -21,6 +20,8 @@ pub data Own : Type 0 where
   stats_own : Stats → Own
   -- the numbers of the open members, most recently used first
   order_own : List ℕ → Own
+  -- the numbers of a form that no other knows
+  row_own : List ℕ → Own
 
 mutual
   pub data State : Type 0 where
@@ -136,6 +137,10 @@ abbrev pub order_in : Own → List ℕ
 order_in (order_own order) = order
 order_in _ = []
 
+abbrev pub row_in : Own → List ℕ
+row_in (row_own numbers) = numbers
+row_in _ = []
+
 -- what a layer's state holds, by what it is
 abbrev pub chunk_of : State → Block
 chunk_of s = chunk_in (own_of s)
@@ -161,10 +166,8 @@ stats_of s = stats_in (own_of s)
 abbrev pub order_of : State → List ℕ
 order_of s = order_in (own_of s)
 
--- one closed child for each member
-abbrev pub all_closed : Shapes → States
-all_closed no_members = no_children
-all_closed (member e es) = child_and closed (all_closed es)
+abbrev pub row_of : State → List ℕ
+row_of s = row_in (own_of s)
 
 -- the same with each number of each statistics layer replaced by 0
 abbrev pub without_counts : Own → Own

@@ -1,8 +1,8 @@
 -- Units: which units of a row a block touches, where units of one size stand side by side from a base on.
-use Rattle.std.specs.Prelude.{ℕ, ◌+◌, ◌-◌, ◌*◌, ◌/◌}
-use Rattle.size_round.specs.Sizes.{ceil_div}
-use Rattle.layer_rules.specs.declared.Block.{Block}
 use Rattle.layer_rules.specs.Blocks.{block, end_of}
+use Rattle.layer_rules.specs.declared.Block.{Block}
+use Rattle.size_round.specs.Sizes.{ceil_div}
+use Rattle.std.specs.Prelude.{ℕ, ◌*◌, ◌+◌, ◌-◌, ◌/◌}
 
 -- the number of the first unit that the block touches
 abbrev pub first_unit : (size base : ℕ) → Block → ℕ

@@ -101,4 +101,6 @@ pub enum Fact {
     Members { count: u32 },
     /// The counters of a statistics layer.
     Counters { stats: Stats },
+    /// Two numbers of a layer that this library does not know; its author says what they are.
+    Numbers { first: u64, second: u64 },
 }

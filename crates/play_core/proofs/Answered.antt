@@ -1,7 +1,7 @@
 -- Answers to lines, and what is told after them.
 use Rattle.std.proofs.Common.{◌≡◌, ℕ, ◌+◌, List, [], ◌∷◌, ◌++◌, length, Option, Some, None, refl, ap, ◌∙◌, arith, length-append}
 use Rattle.std.specs.Option.{option_map}
-use Rattle.layer_rules.specs.Shape.{Shape}
+use Rattle.layer_rules.specs.Rules.{Rules}
 use Rattle.heap_core.specs.Performing.{Run}
 use Rattle.play_core.specs.Lines.{joined}
 use Rattle.play_core.specs.Outcome.{Outcome, Answers, Stops, outcome}
@@ -14,7 +14,7 @@ mapped f (Some x) y h = (x, refl, cc)
 pub some_same : {A : Type 0} {x y : A} → Some x ≡ Some y → x ≡ y
 some_same h = cc
 
-told_here : (e : Shape) (s t : Run) (n m b c : ℕ) (more : List (List ℕ)) → s ≡ t → m ≡ n → c ≡ b → told_from e n b s more ≡ after [] (told_from e m c t more)
+told_here : (e : Rules) (s t : Run) (n m b c : ℕ) (more : List (List ℕ)) → s ≡ t → m ≡ n → c ≡ b → told_from e n b s more ≡ after [] (told_from e m c t more)
 told_here e s t n m b c more i f g = rw (f, g, ← i) refl
 
 on_answers : (o : Outcome) (answers : Run → Option (List Piece × Run)) (rest : Run → Told) (end : Told) (n : ℕ) (s t : Run) → ((next : Run) (ps : List Piece) → answers next ≡ Some (ps, t) → rest next ≡ after ps end) → (pieces : List Piece) → answers_on o answers ≡ Some (pieces, t) → told_on n s o rest ≡ after pieces end
@@ -27,7 +27,7 @@ on_answers (Answers call answer next) answers rest end n s t ih pieces h =
     ap (after (answer_piece call answer next ∷ [])) (ih next q.0.0 e) ∙ ap (λ ps. after ps end) p
 
 -- what lines are told, by their answers
-pub told_answers : (e : Shape) (lines more : List (List ℕ)) (n b m c : ℕ) (s t : Run) (pieces : List Piece) → answers_from e b s lines ≡ Some (pieces, t) → m ≡ n + length lines → c ≡ b + length (joined lines) → told_from e n b s (lines ++ more) ≡ after pieces (told_from e m c t more)
+pub told_answers : (e : Rules) (lines more : List (List ℕ)) (n b m c : ℕ) (s t : Run) (pieces : List Piece) → answers_from e b s lines ≡ Some (pieces, t) → m ≡ n + length lines → c ≡ b + length (joined lines) → told_from e n b s (lines ++ more) ≡ after pieces (told_from e m c t more)
 told_answers e [] more n b m c s t pieces h i f =
     let k : s ≡ t = ap (λ (x : List Piece × Run). x.1) (some_same h) in
     let ps : [] ≡ pieces = ap (λ (x : List Piece × Run). x.0) (some_same h) in
@@ -46,7 +46,7 @@ on_append (Answers call answer next) first both x y t u ih h =
     ap (option_map (λ (z : List Piece × Run). (answer_piece call answer next ∷ z.0, z.1))) (ih next q.0.0 e) ∙ ap (λ ps. Some (ps ++ y, u)) p
 
 -- the answers to more lines
-pub answers_append : (e : Shape) (ls ms : List (List ℕ)) (b c : ℕ) (s t u : Run) (x y : List Piece) → answers_from e b s ls ≡ Some (x, t) → answers_from e c t ms ≡ Some (y, u) → c ≡ b + length (joined ls) → answers_from e b s (ls ++ ms) ≡ Some (x ++ y, u)
+pub answers_append : (e : Rules) (ls ms : List (List ℕ)) (b c : ℕ) (s t u : Run) (x y : List Piece) → answers_from e b s ls ≡ Some (x, t) → answers_from e c t ms ≡ Some (y, u) → c ≡ b + length (joined ls) → answers_from e b s (ls ++ ms) ≡ Some (x ++ y, u)
 answers_append e [] ms b c s t u x y h k i =
     let r : s ≡ t = ap (λ (z : List Piece × Run). z.1) (some_same h) in
     let ps : [] ≡ x = ap (λ (z : List Piece × Run). z.0) (some_same h) in

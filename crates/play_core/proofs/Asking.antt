@@ -1,9 +1,8 @@
 -- What words ask for.
 use Rattle.std.proofs.Common.{◌≡◌, Option, Some, None, Result, Ok, Err, refl, ap, ◌∙◌}
 use Rattle.expr_reader.specs.declared.fault.ExprFault.{ExprFault}
-use Rattle.expr_reader.specs.Answers.{IsReadAs}
+use Rattle.expr_reader.specs.Answers.{IsReadAs, EachTextIsReadOnce}
 use Rattle.expr_reader.specs.Trees.{Tree as Expression}
-use Rattle.expr_reader.proofs.Whole.{read_once}
 use Rattle.play_core.specs.Asked.{Asked, Nothing, Refused, Checks, Replays, CommandAsks, MayAsk, AllWordsAskOnce}
 use Rattle.play_core.specs.Command.{Command, check, replay, command_of, expression_in}
 
@@ -55,11 +54,11 @@ by_reading (replay text cells) (Ok found) h only = (Replays found cells, (h, ref
     is (Checks e) k = absurd k
     is (Replays e n) k = ap (λ x. Replays x n) (ok_is e found (only (Ok e) k.0)) ∙ ap (Replays found) k.1
 
-pub asks_once : (command : Option Command) → AsksOnce command
-asks_once None = (Nothing, refl, λ other h. h)
-asks_once (Some command) =
+pub asks_once : EachTextIsReadOnce → (command : Option Command) → AsksOnce command
+asks_once read_once None = (Nothing, refl, λ other h. h)
+asks_once read_once (Some command) =
     let once = read_once (expression_in command) in
     by_reading command once.0 once.1 once.2
 
-pub all_words : AllWordsAskOnce
-all_words words = asks_once (command_of words)
+pub all_words : EachTextIsReadOnce → AllWordsAskOnce
+all_words read_once words = asks_once read_once (command_of words)

@@ -3,7 +3,7 @@ use Rattle.std.proofs.Common.{◌≡◌, ℕ, ◌⊎◌, inl, inr, true, List, O
 use Rattle.std.specs.Prelude.{IsOk, IsErr}
 use Rattle.space_core.specs.Memory.{Memory}
 use Rattle.layer_rules.specs.After.{Opening}
-use Rattle.layer_rules.specs.Shape.{Shape}
+use Rattle.layer_rules.specs.Rules.{Rules}
 use Rattle.source_sink.specs.Counts.{Rose}
 use Rattle.expr_reader.specs.Trees.{Tree}
 use Rattle.play_core.specs.declared.Status.{Status}
@@ -13,6 +13,7 @@ use Rattle.play_core.specs.CheckText.{check_text}
 use Rattle.play_core.specs.Command.{Command, check, replay, IsCheck, IsReplay}
 use Rattle.play_core.specs.Devices.{Reading, Writing}
 use Rattle.play_core.specs.Runs.{HasAllFree, TextPut, MaySay, Opens, Runs, IsEarly, IsStatusWhere}
+use Rattle.expr_reader.specs.Answers.{EachTextIsReadOnce}
 use Rattle.play_core.proofs.Asking.{asks_once}
 use Rattle.play_core.proofs.Whole.{ran_late, says_other, says_fault, says_status}
 
@@ -40,9 +41,9 @@ may_free status text r r' w w' m end (inr h) = h.free
 
 -- ---- Good
 
-good_opens : (shape : Shape) (opening : Opening) (r r' : Reading) (w w' : Writing) (m : Memory) → Opens shape opening r r' w w' m Good → (w'.faults ≡ w.faults) × (r'.finished ≡ true) × (r'.faults ≡ r.faults)
-good_opens shape (Err node) r r' w w' m h = absurd (says_other _ _ w w' Good h.put (λ e. cc) (λ e. cc))
-good_opens shape (Ok o) r r' w w' m h = (h.2.4.counted, h.2.3, h.2.2.counted)
+good_opens : (root : Rules) (opening : Opening) (r r' : Reading) (w w' : Writing) (m : Memory) → Opens root opening r r' w w' m Good → (w'.faults ≡ w.faults) × (r'.finished ≡ true) × (r'.faults ≡ r.faults)
+good_opens root (Err node) r r' w w' m h = absurd (says_other _ _ w w' Good h.put (λ e. cc) (λ e. cc))
+good_opens root (Ok o) r r' w w' m h = (h.2.4.counted, h.2.3, h.2.2.counted)
 
 good_put : (text : List ℕ) (w w' : Writing) → TextPut Good text w w' Good → w'.faults ≡ w.faults
 good_put text w w' (inl h) = h.1.counted
@@ -66,17 +67,17 @@ good_read (Some (replay text cells)) (Replays e n) r r' w w' m i a (inl h) = abs
 good_read (Some (replay text cells)) (Replays e n) r r' w w' m i a (inr h) =
     let g = good_opens (root_of e) (opening_of e n) r r' w w' m h in (g.1, g.2)
 
-pub runs_good : (command : Option Command) (r r' : Reading) (w w' : Writing) (m : Memory) (end : Status) → AllRun command r r' w w' m end → end ≡ Good → (w'.faults ≡ w.faults) × (IsReplay command → (r'.finished ≡ true) × (r'.faults ≡ r.faults))
-runs_good command r r' w w' m end all e =
-    let once = asks_once command in
+pub runs_good : (law : EachTextIsReadOnce) (command : Option Command) (r r' : Reading) (w w' : Writing) (m : Memory) (end : Status) → AllRun command r r' w w' m end → end ≡ Good → (w'.faults ≡ w.faults) × (IsReplay command → (r'.finished ≡ true) × (r'.faults ≡ r.faults))
+runs_good law command r r' w w' m end all e =
+    let once = asks_once law command in
     let h = subst (λ (s : Status). Runs once.0 r r' w w' m s) e (all once.0 once.1) in
     (good_counted once.0 r r' w w' m h, λ i. good_read command once.0 r r' w w' m i once.1 h)
 
 -- ---- Usage
 
-usage_opens : (shape : Shape) (opening : Opening) (r r' : Reading) (w w' : Writing) (m : Memory) → Opens shape opening r r' w w' m Usage → ⊥
-usage_opens shape (Err node) r r' w w' m h = says_other _ _ w w' Usage h.put (λ e. cc) (λ e. cc)
-usage_opens shape (Ok o) r r' w w' m h = h.2
+usage_opens : (root : Rules) (opening : Opening) (r r' : Reading) (w w' : Writing) (m : Memory) → Opens root opening r r' w w' m Usage → ⊥
+usage_opens root (Err node) r r' w w' m h = says_other _ _ w w' Usage h.put (λ e. cc) (λ e. cc)
+usage_opens root (Ok o) r r' w w' m h = h.2
 
 usage_by : (command : Option Command) (asked : Asked) (r r' : Reading) (w w' : Writing) (m : Memory) → MayAsk command asked → Runs asked r r' w w' m Usage → command ≡ None
 usage_by None asked r r' w w' m a h = refl
@@ -86,17 +87,17 @@ usage_by (Some command) (Checks e) r r' w w' m a h = absurd (may_other _ _ r r' 
 usage_by (Some command) (Replays e cells) r r' w w' m a (inl h) = absurd (let e : Usage ≡ NoMemory = h.status in cc)
 usage_by (Some command) (Replays e cells) r r' w w' m a (inr h) = absurd (usage_opens (root_of e) (opening_of e cells) r r' w w' m h)
 
-pub runs_usage : (command : Option Command) (r r' : Reading) (w w' : Writing) (m : Memory) (end : Status) → AllRun command r r' w w' m end → IsStatusWhere end Usage (command ≡ None) (Rose w.faults w'.faults)
-runs_usage command r r' w w' m end all = (
-  λ e. let once = asks_once command in usage_by command once.0 r r' w w' m once.1 (subst (λ (s : Status). Runs once.0 r r' w w' m s) e (all once.0 once.1)),
+pub runs_usage : (law : EachTextIsReadOnce) (command : Option Command) (r r' : Reading) (w w' : Writing) (m : Memory) (end : Status) → AllRun command r r' w w' m end → IsStatusWhere end Usage (command ≡ None) (Rose w.faults w'.faults)
+runs_usage law command r r' w w' m end all = (
+  λ e. let once = asks_once law command in usage_by command once.0 r r' w w' m once.1 (subst (λ (s : Status). Runs once.0 r r' w w' m s) e (all once.0 once.1)),
   λ e n. let h = all Nothing (subst (λ (c : Option Command). MayAsk c Nothing) (sym e) refl) in says_status _ _ w w' end h.put n,
 )
 
 -- ---- Expression
 
-expression_opens : (shape : Shape) (opening : Opening) (r r' : Reading) (w w' : Writing) (m : Memory) → Opens shape opening r r' w w' m Expression → ⊥
-expression_opens shape (Err node) r r' w w' m h = says_other _ _ w w' Expression h.put (λ e. cc) (λ e. cc)
-expression_opens shape (Ok o) r r' w w' m h = h.2
+expression_opens : (root : Rules) (opening : Opening) (r r' : Reading) (w w' : Writing) (m : Memory) → Opens root opening r r' w w' m Expression → ⊥
+expression_opens root (Err node) r r' w w' m h = says_other _ _ w w' Expression h.put (λ e. cc) (λ e. cc)
+expression_opens root (Ok o) r r' w w' m h = h.2
 
 expression_by : (command : Option Command) (asked : Asked) (r r' : Reading) (w w' : Writing) (m : Memory) → MayAsk command asked → Runs asked r r' w w' m Expression → (fault : _) × MayAsk command (Refused fault)
 expression_by command Nothing r r' w w' m a h = absurd (says_other _ _ w w' Expression h.put (λ e. cc) (λ e. cc))
@@ -105,10 +106,10 @@ expression_by command (Checks e) r r' w w' m a h = absurd (may_other _ _ r r' w 
 expression_by command (Replays e cells) r r' w w' m a (inl h) = absurd (let e : Expression ≡ NoMemory = h.status in cc)
 expression_by command (Replays e cells) r r' w w' m a (inr h) = absurd (expression_opens (root_of e) (opening_of e cells) r r' w w' m h)
 
-pub runs_expression : (command : Option Command) (r r' : Reading) (w w' : Writing) (m : Memory) (end : Status) → AllRun command r r' w w' m end
+pub runs_expression : (law : EachTextIsReadOnce) (command : Option Command) (r r' : Reading) (w w' : Writing) (m : Memory) (end : Status) → AllRun command r r' w w' m end
     → IsStatusWhere end Expression ((fault : _) × MayAsk command (Refused fault)) (Rose w.faults w'.faults ⊎ (end ≡ NoMemory))
-runs_expression command r r' w w' m end all = (
-  λ e. let once = asks_once command in expression_by command once.0 r r' w w' m once.1 (subst (λ (s : Status). Runs once.0 r r' w w' m s) e (all once.0 once.1)),
+runs_expression law command r r' w w' m end all = (
+  λ e. let once = asks_once law command in expression_by command once.0 r r' w w' m once.1 (subst (λ (s : Status). Runs once.0 r r' w w' m s) e (all once.0 once.1)),
   λ f n. may_status _ _ r r' w w' m end (all (Refused f.0) f.1) n,
 )
 
@@ -118,9 +119,9 @@ runs_expression command r r' w w' m end all = (
 abbrev AsksWith : (IsSo : Opening → Type 0) → Option Command → Type 0
 AsksWith IsSo command = (e : Tree) × (cells : ℕ) × MayAsk command (Replays e cells) × IsSo (opening_of e cells)
 
-refused_opens : (shape : Shape) (opening : Opening) (r r' : Reading) (w w' : Writing) (m : Memory) → Opens shape opening r r' w w' m OpeningRefused → IsErr opening
-refused_opens shape (Err node) r r' w w' m h = refl
-refused_opens shape (Ok o) r r' w w' m h = absurd h.2
+refused_opens : (root : Rules) (opening : Opening) (r r' : Reading) (w w' : Writing) (m : Memory) → Opens root opening r r' w w' m OpeningRefused → IsErr opening
+refused_opens root (Err node) r r' w w' m h = refl
+refused_opens root (Ok o) r r' w w' m h = absurd h.2
 
 refused_by : (command : Option Command) (asked : Asked) (r r' : Reading) (w w' : Writing) (m : Memory) → MayAsk command asked → Runs asked r r' w w' m OpeningRefused → AsksWith IsErr command
 refused_by command Nothing r r' w w' m a h = absurd (says_other _ _ w w' OpeningRefused h.put (λ e. cc) (λ e. cc))
@@ -129,26 +130,26 @@ refused_by command (Checks e) r r' w w' m a h = absurd (may_other _ _ r r' w w' 
 refused_by command (Replays e cells) r r' w w' m a (inl h) = absurd (let e : OpeningRefused ≡ NoMemory = h.status in cc)
 refused_by command (Replays e cells) r r' w w' m a (inr h) = (e, cells, a, refused_opens (root_of e) (opening_of e cells) r r' w w' m h)
 
-opens_status : (shape : Shape) (opening : Opening) (r r' : Reading) (w w' : Writing) (m : Memory) (end : Status) → Opens shape opening r r' w w' m end → IsErr opening → (Rose w.faults w'.faults → ⊥) → end ≡ OpeningRefused
-opens_status shape (Err node) r r' w w' m end h i n = says_status _ _ w w' end h.put n
-opens_status shape (Ok o) r r' w w' m end h i n = absurd cc
+opens_status : (root : Rules) (opening : Opening) (r r' : Reading) (w w' : Writing) (m : Memory) (end : Status) → Opens root opening r r' w w' m end → IsErr opening → (Rose w.faults w'.faults → ⊥) → end ≡ OpeningRefused
+opens_status root (Err node) r r' w w' m end h i n = says_status _ _ w w' end h.put n
+opens_status root (Ok o) r r' w w' m end h i n = absurd cc
 
 refused_from : (e : Tree) (cells : ℕ) (r r' : Reading) (w w' : Writing) (m : Memory) (end : Status) → Runs (Replays e cells) r r' w w' m end → IsErr (opening_of e cells) → ((Rose w.faults w'.faults ⊎ (end ≡ NoMemory)) → ⊥) → end ≡ OpeningRefused
 refused_from e cells r r' w w' m end (inl h) i n = absurd (n (inr h.status))
 refused_from e cells r r' w w' m end (inr h) i n = opens_status (root_of e) (opening_of e cells) r r' w w' m end h i (λ x. n (inl x))
 
-pub runs_refused : (command : Option Command) (r r' : Reading) (w w' : Writing) (m : Memory) (end : Status) → AllRun command r r' w w' m end
+pub runs_refused : (law : EachTextIsReadOnce) (command : Option Command) (r r' : Reading) (w w' : Writing) (m : Memory) (end : Status) → AllRun command r r' w w' m end
     → IsStatusWhere end OpeningRefused (AsksWith IsErr command) (Rose w.faults w'.faults ⊎ (end ≡ NoMemory))
-runs_refused command r r' w w' m end all = (
-  λ e. let once = asks_once command in refused_by command once.0 r r' w w' m once.1 (subst (λ (s : Status). Runs once.0 r r' w w' m s) e (all once.0 once.1)),
+runs_refused law command r r' w w' m end all = (
+  λ e. let once = asks_once law command in refused_by command once.0 r r' w w' m once.1 (subst (λ (s : Status). Runs once.0 r r' w w' m s) e (all once.0 once.1)),
   λ f n. refused_from f.0 f.1 r r' w w' m end (all (Replays f.0 f.1) f.2) f.3 n,
 )
 
 -- ---- ReadFault
 
-read_opens : (shape : Shape) (opening : Opening) (r r' : Reading) (w w' : Writing) (m : Memory) → Opens shape opening r r' w w' m ReadFault → IsOk opening × (r'.finished ≡ true) × Rose r.faults r'.faults
-read_opens shape (Err node) r r' w w' m h = absurd (says_other _ _ w w' ReadFault h.put (λ e. cc) (λ e. cc))
-read_opens shape (Ok o) r r' w w' m h = (refl, h.2.2.finished, h.2.2.rose)
+read_opens : (root : Rules) (opening : Opening) (r r' : Reading) (w w' : Writing) (m : Memory) → Opens root opening r r' w w' m ReadFault → IsOk opening × (r'.finished ≡ true) × Rose r.faults r'.faults
+read_opens root (Err node) r r' w w' m h = absurd (says_other _ _ w w' ReadFault h.put (λ e. cc) (λ e. cc))
+read_opens root (Ok o) r r' w w' m h = (refl, h.2.2.finished, h.2.2.rose)
 
 read_by : (command : Option Command) (asked : Asked) (r r' : Reading) (w w' : Writing) (m : Memory) → MayAsk command asked → Runs asked r r' w w' m ReadFault → AsksWith IsOk command × (r'.finished ≡ true) × Rose r.faults r'.faults
 read_by command Nothing r r' w w' m a h = absurd (says_other _ _ w w' ReadFault h.put (λ e. cc) (λ e. cc))
@@ -158,15 +159,15 @@ read_by command (Replays e cells) r r' w w' m a (inl h) = absurd (let e : ReadFa
 read_by command (Replays e cells) r r' w w' m a (inr h) =
     let k = read_opens (root_of e) (opening_of e cells) r r' w w' m h in ((e, cells, a, k.0), k.1, k.2)
 
-pub runs_read_fault : (command : Option Command) (r r' : Reading) (w w' : Writing) (m : Memory) (end : Status) → AllRun command r r' w w' m end → end ≡ ReadFault → AsksWith IsOk command × (r'.finished ≡ true) × Rose r.faults r'.faults
-runs_read_fault command r r' w w' m end all e =
-    let once = asks_once command in read_by command once.0 r r' w w' m once.1 (subst (λ (s : Status). Runs once.0 r r' w w' m s) e (all once.0 once.1))
+pub runs_read_fault : (law : EachTextIsReadOnce) (command : Option Command) (r r' : Reading) (w w' : Writing) (m : Memory) (end : Status) → AllRun command r r' w w' m end → end ≡ ReadFault → AsksWith IsOk command × (r'.finished ≡ true) × Rose r.faults r'.faults
+runs_read_fault law command r r' w w' m end all e =
+    let once = asks_once law command in read_by command once.0 r r' w w' m once.1 (subst (λ (s : Status). Runs once.0 r r' w w' m s) e (all once.0 once.1))
 
 -- ---- WriteFault
 
-write_opens : (shape : Shape) (opening : Opening) (r r' : Reading) (w w' : Writing) (m : Memory) → Opens shape opening r r' w w' m WriteFault → Rose w.faults w'.faults
-write_opens shape (Err node) r r' w w' m h = says_fault _ _ w w' WriteFault h.put (λ e. cc)
-write_opens shape (Ok o) r r' w w' m h = h.2.3.rose
+write_opens : (root : Rules) (opening : Opening) (r r' : Reading) (w w' : Writing) (m : Memory) → Opens root opening r r' w w' m WriteFault → Rose w.faults w'.faults
+write_opens root (Err node) r r' w w' m h = says_fault _ _ w w' WriteFault h.put (λ e. cc)
+write_opens root (Ok o) r r' w w' m h = h.2.3.rose
 
 write_by : (asked : Asked) (r r' : Reading) (w w' : Writing) (m : Memory) → Runs asked r r' w w' m WriteFault → Rose w.faults w'.faults
 write_by Nothing r r' w w' m h = says_fault _ _ w w' WriteFault h.put (λ e. cc)
@@ -175,15 +176,15 @@ write_by (Checks e) r r' w w' m h = may_fault _ _ r r' w w' m h (λ e. cc)
 write_by (Replays e cells) r r' w w' m (inl h) = absurd (let e : WriteFault ≡ NoMemory = h.status in cc)
 write_by (Replays e cells) r r' w w' m (inr h) = write_opens (root_of e) (opening_of e cells) r r' w w' m h
 
-pub runs_write_fault : (command : Option Command) (r r' : Reading) (w w' : Writing) (m : Memory) (end : Status) → AllRun command r r' w w' m end → end ≡ WriteFault → Rose w.faults w'.faults
-runs_write_fault command r r' w w' m end all e =
-    let once = asks_once command in write_by once.0 r r' w w' m (subst (λ (s : Status). Runs once.0 r r' w w' m s) e (all once.0 once.1))
+pub runs_write_fault : (law : EachTextIsReadOnce) (command : Option Command) (r r' : Reading) (w w' : Writing) (m : Memory) (end : Status) → AllRun command r r' w w' m end → end ≡ WriteFault → Rose w.faults w'.faults
+runs_write_fault law command r r' w w' m end all e =
+    let once = asks_once law command in write_by once.0 r r' w w' m (subst (λ (s : Status). Runs once.0 r r' w w' m s) e (all once.0 once.1))
 
 -- ---- no cell is taken
 
-free_opens : (shape : Shape) (opening : Opening) (r r' : Reading) (w w' : Writing) (m : Memory) (end : Status) → Opens shape opening r r' w w' m end → IsEarly end → HasAllFree m
-free_opens shape (Err node) r r' w w' m end h e = h.free
-free_opens shape (Ok o) r r' w w' m end h e = absurd (ran_late shape _ h.0 r r' w w' end h.2 e)
+free_opens : (root : Rules) (opening : Opening) (r r' : Reading) (w w' : Writing) (m : Memory) (end : Status) → Opens root opening r r' w w' m end → IsEarly end → HasAllFree m
+free_opens root (Err node) r r' w w' m end h e = h.free
+free_opens root (Ok o) r r' w w' m end h e = absurd (ran_late root _ h.0 r r' w w' end h.2 e)
 
 free_by : (asked : Asked) (r r' : Reading) (w w' : Writing) (m : Memory) (end : Status) → Runs asked r r' w w' m end → IsEarly end → HasAllFree m
 free_by Nothing r r' w w' m end h e = h.free
@@ -192,8 +193,8 @@ free_by (Checks x) r r' w w' m end h e = may_free _ _ r r' w w' m end h
 free_by (Replays x cells) r r' w w' m end (inl h) e = h.free
 free_by (Replays x cells) r r' w w' m end (inr h) e = free_opens (root_of x) (opening_of x cells) r r' w w' m end h e
 
-pub runs_free : (command : Option Command) (r r' : Reading) (w w' : Writing) (m : Memory) (end : Status) → AllRun command r r' w w' m end → IsEarly end → HasAllFree m
-runs_free command r r' w w' m end all e = let once = asks_once command in free_by once.0 r r' w w' m end (all once.0 once.1) e
+pub runs_free : (law : EachTextIsReadOnce) (command : Option Command) (r r' : Reading) (w w' : Writing) (m : Memory) (end : Status) → AllRun command r r' w w' m end → IsEarly end → HasAllFree m
+runs_free law command r r' w w' m end all e = let once = asks_once law command in free_by once.0 r r' w w' m end (all once.0 once.1) e
 
 checked_by : (command : Option Command) (asked : Asked) (r r' : Reading) (w w' : Writing) (m : Memory) (end : Status) → IsCheck command → MayAsk command asked → Runs asked r r' w w' m end → HasAllFree m
 checked_by None asked r r' w w' m end i a h = absurd i
@@ -203,5 +204,5 @@ checked_by (Some (check text)) (Refused fault) r r' w w' m end i a h = may_free 
 checked_by (Some (check text)) (Checks e) r r' w w' m end i a h = may_free _ _ r r' w w' m end h
 checked_by (Some (check text)) (Replays e cells) r r' w w' m end i a h = absurd a
 
-pub runs_checked : (command : Option Command) (r r' : Reading) (w w' : Writing) (m : Memory) (end : Status) → AllRun command r r' w w' m end → IsCheck command → HasAllFree m
-runs_checked command r r' w w' m end all i = let once = asks_once command in checked_by command once.0 r r' w w' m end i once.1 (all once.0 once.1)
+pub runs_checked : (law : EachTextIsReadOnce) (command : Option Command) (r r' : Reading) (w w' : Writing) (m : Memory) (end : Status) → AllRun command r r' w w' m end → IsCheck command → HasAllFree m
+runs_checked law command r r' w w' m end all i = let once = asks_once law command in checked_by command once.0 r r' w w' m end i once.1 (all once.0 once.1)

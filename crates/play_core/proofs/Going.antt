@@ -3,7 +3,7 @@ use Rattle.std.proofs.Common.{◌≡◌, ℕ, ◌+◌, ◌≤◌, ◌<◌, Bool,
 use Rattle.std.proofs.lemmas.Bool.Decides.{nat_tests}
 use Rattle.std.proofs.lemmas.List.{take-append-drop, take_more}
 use Rattle.std.proofs.lemmas.List.Concat.{flat_map-append}
-use Rattle.layer_rules.specs.Shape.{Shape}
+use Rattle.layer_rules.specs.Rules.{Rules}
 use Rattle.heap_core.specs.declared.Call.{Call}
 use Rattle.heap_core.specs.declared.Answer.{Answer}
 use Rattle.heap_core.specs.Performing.{Run}
@@ -13,7 +13,6 @@ use Rattle.trace_text.specs.declared.TraceFault.TheVariants.{Line as LineIn, Too
 use Rattle.trace_text.specs.Grammar.{line_call}
 use Rattle.trace_text.specs.Text.{answer_text, fault_text}
 use Rattle.play_core.specs.declared.Step.{Step}
-use Rattle.play_core.specs.declared.Step.TheVariants as step
 use Rattle.play_core.specs.Devices.{Writing, PutsAll}
 use Rattle.play_core.specs.Lines.{lines_of, IsOpen, joined}
 use Rattle.play_core.specs.Outcome.{Outcome, Answers, Stops, outcome, read_outcome}
@@ -24,9 +23,10 @@ use Rattle.play_core.proofs.PutLemmas.{puts_more, fails_more, puts_none_at}
 use Rattle.play_core.proofs.LineFacts.{lines_joined, joined-append, whole_append, open_more, lines_begin, lines_whole}
 use Rattle.play_core.proofs.Answered.{told_answers, answers_append, some_same}
 use Rattle.play_core.proofs.Outcomes.{out_whole, out_long, out_much}
+use Rattle.play_core.specs.declared.Step.TheVariants as step
 
 -- what is told of all is the pieces so far and what is told of the rest
-pub told_leads : (e : Shape) (p q : Place) (bytes rest : List ℕ) (pieces : List Piece) → Leads e p bytes pieces q → told_at e p (bytes ++ rest) ≡ after pieces (told_at e q rest)
+pub told_leads : (e : Rules) (p q : Place) (bytes rest : List ℕ) (pieces : List Piece) → Leads e p bytes pieces q → told_at e p (bytes ++ rest) ≡ after pieces (told_at e q rest)
 told_leads e p q bytes rest pieces h =
     let i : p.begun ++ (bytes ++ rest) ≡ joined h.lines ++ (q.begun ++ rest) = sym (append_assoc p.begun bytes rest) ∙ ap (λ xs. xs ++ rest) h.cut.all ∙ append_assoc (joined h.lines) q.begun rest in
     ap (λ xs. told_from e p.number p.before p.run (lines_of xs)) i
@@ -34,7 +34,7 @@ told_leads e p q bytes rest pieces h =
     ∙ told_answers e h.lines (lines_of (q.begun ++ rest)) p.number p.before q.number q.before p.run q.run pieces h.answers h.number h.before
 
 -- one way after another
-pub leads_trans : (e : Shape) (p q r : Place) (a b : List ℕ) (x y : List Piece) → Leads e p a x q → Leads e q b y r → Leads e p (a ++ b) (x ++ y) r
+pub leads_trans : (e : Rules) (p q r : Place) (a b : List ℕ) (x y : List Piece) → Leads e p a x q → Leads e q b y r → Leads e p (a ++ b) (x ++ y) r
 leads_trans e p q r a b x y h k = record {
   lines = h.lines ++ k.lines;
   cut = record {
@@ -50,7 +50,7 @@ leads_trans e p q r a b x y h k = record {
 }
 
 -- nothing leads nowhere else
-pub leads_none : (e : Shape) (p : Place) → IsOpen p.begun → length p.begun ≤ 256 → Leads e p [] [] p
+pub leads_none : (e : Rules) (p : Place) → IsOpen p.begun → length p.begun ≤ 256 → Leads e p [] [] p
 leads_none e p opened short = record {
   lines = [];
   cut = record { all = append-nil p.begun; whole = tt; open_rest = opened };
@@ -61,7 +61,7 @@ leads_none e p opened short = record {
 }
 
 -- a byte that isn't a newline
-leads_byte : (e : Shape) (p : Place) (b : ℕ) → IsOpen p.begun → length p.begun < 256 → nat_eq b 10 ≡ false → Leads e p (b ∷ []) [] (record { number = p.number; before = p.before; begun = p.begun ++ b ∷ []; run = p.run })
+leads_byte : (e : Rules) (p : Place) (b : ℕ) → IsOpen p.begun → length p.begun < 256 → nat_eq b 10 ≡ false → Leads e p (b ∷ []) [] (record { number = p.number; before = p.before; begun = p.begun ++ b ∷ []; run = p.run })
 leads_byte e p b opened short new = record {
   lines = [];
   cut = record { all = refl; whole = tt; open_rest = open_more p.begun b opened new };
@@ -72,7 +72,7 @@ leads_byte e p b opened short new = record {
 }
 
 -- a newline
-leads_line : (e : Shape) (p : Place) (call : Call) (answer : Answer) (next : Run) → IsOpen p.begun → length p.begun ≤ 256 → p.before + length p.begun + 1 ≤ 16777216 → read_outcome e p.run (line_call p.begun) ≡ Answers call answer next
+leads_line : (e : Rules) (p : Place) (call : Call) (answer : Answer) (next : Run) → IsOpen p.begun → length p.begun ≤ 256 → p.before + length p.begun + 1 ≤ 16777216 → read_outcome e p.run (line_call p.begun) ≡ Answers call answer next
     → Leads e p (10 ∷ []) (answer_piece call answer next ∷ []) (record { number = p.number + 1; before = p.before + length p.begun + 1; begun = []; run = next })
 leads_line e p call answer next opened short within i = record {
   lines = (p.begun ++ 10 ∷ []) ∷ [];
@@ -84,14 +84,14 @@ leads_line e p call answer next opened short within i = record {
 }
 
 -- the byte and the tests of it
-abbrev Tests : Shape → Place → (b : ℕ) (t u v : Bool) → Option Outcome
+abbrev Tests : Rules → Place → (b : ℕ) (t u v : Bool) → Option Outcome
 Tests e p b t u v = cond t (Some (Stops TooMuchInput)) (cond u (Some (read_outcome e p.run (line_call p.begun))) (cond v (Some (Stops (LineIn NotBuiltYet))) None))
 
 abbrev Next : Place → (b : ℕ) → (u : Bool) → (next : Run) → Place
 Next p b u next = cond u (record { number = p.number + 1; before = p.before + length p.begun + 1; begun = []; run = next }) (record { number = p.number; before = p.before; begun = p.begun ++ b ∷ []; run = next })
 
 -- an answer comes only with a newline
-answers_by : (e : Shape) (p : Place) (b : ℕ) (call : Call) (answer : Answer) (next : Run) (t u v : Bool) → nat_lt 16777216 (p.before + length p.begun + 1) ≡ t → nat_eq b 10 ≡ u → IsOpen p.begun → length p.begun ≤ 256
+answers_by : (e : Rules) (p : Place) (b : ℕ) (call : Call) (answer : Answer) (next : Run) (t u v : Bool) → nat_lt 16777216 (p.before + length p.begun + 1) ≡ t → nat_eq b 10 ≡ u → IsOpen p.begun → length p.begun ≤ 256
     → Tests e p b t u v ≡ Some (Answers call answer next) → Leads e p (b ∷ []) (answer_piece call answer next ∷ []) (Next p b u next)
 answers_by e p b call answer next true u v d i opened short h = absurd (let x : Stops TooMuchInput ≡ Answers call answer next = some_same h in cc)
 answers_by e p b call answer next false true v d i opened short h =
@@ -100,26 +100,26 @@ answers_by e p b call answer next false true v d i opened short h =
 answers_by e p b call answer next false false true d i opened short h = absurd (let x : Stops (LineIn NotBuiltYet) ≡ Answers call answer next = some_same h in cc)
 answers_by e p b call answer next false false false d i opened short h = absurd cc
 
-fed_answers : (e : Shape) (p : Place) (b : ℕ) (call : Call) (answer : Answer) (next : Run) → IsOpen p.begun → length p.begun ≤ 256 → fed e p b ≡ Some (Answers call answer next) → Leads e p (b ∷ []) (answer_piece call answer next ∷ []) (fed_place p b next)
+fed_answers : (e : Rules) (p : Place) (b : ℕ) (call : Call) (answer : Answer) (next : Run) → IsOpen p.begun → length p.begun ≤ 256 → fed e p b ≡ Some (Answers call answer next) → Leads e p (b ∷ []) (answer_piece call answer next ∷ []) (fed_place p b next)
 unfolding fed fed_place
 fed_answers e p b call answer next opened short h = answers_by e p b call answer next _ _ _ refl refl opened short h
 
 -- nothing is done only for one more byte of a line
-quiet_by : (e : Shape) (p : Place) (b : ℕ) (t u v : Bool) → nat_eq b 10 ≡ u → nat_eq (length p.begun) 256 ≡ v → IsOpen p.begun → length p.begun ≤ 256
+quiet_by : (e : Rules) (p : Place) (b : ℕ) (t u v : Bool) → nat_eq b 10 ≡ u → nat_eq (length p.begun) 256 ≡ v → IsOpen p.begun → length p.begun ≤ 256
     → Tests e p b t u v ≡ None → Leads e p (b ∷ []) [] (Next p b u p.run)
 quiet_by e p b true u v i f opened short h = absurd cc
 quiet_by e p b false true v i f opened short h = absurd cc
 quiet_by e p b false false true i f opened short h = absurd cc
 quiet_by e p b false false false i f opened short h = leads_byte e p b opened (grind (arith, nat_tests, f)) i
 
-fed_quiet : (e : Shape) (p : Place) (b : ℕ) → IsOpen p.begun → length p.begun ≤ 256 → fed e p b ≡ None → Leads e p (b ∷ []) [] (fed_place p b p.run)
+fed_quiet : (e : Rules) (p : Place) (b : ℕ) → IsOpen p.begun → length p.begun ≤ 256 → fed e p b ≡ None → Leads e p (b ∷ []) [] (fed_place p b p.run)
 unfolding fed fed_place
 fed_quiet e p b opened short h = quiet_by e p b _ _ _ refl refl opened short h
 
-stop_line : (e : Shape) (n before : ℕ) (run : Run) (line : List ℕ) (others : List (List ℕ)) (fault : TraceFault) → outcome e before run line ≡ Stops fault → told_from e n before run (line ∷ others) ≡ stopped n fault run
+stop_line : (e : Rules) (n before : ℕ) (run : Run) (line : List ℕ) (others : List (List ℕ)) (fault : TraceFault) → outcome e before run line ≡ Stops fault → told_from e n before run (line ∷ others) ≡ stopped n fault run
 stop_line e n before run line others fault i = ap (λ o. told_on n run o (λ next. told_from e (n + 1) (before + length line) next others)) i
 
-stops_by : (e : Shape) (p : Place) (b : ℕ) (rest : List ℕ) (fault : TraceFault) (t u v : Bool) → nat_lt 16777216 (p.before + length p.begun + 1) ≡ t → nat_eq b 10 ≡ u → nat_eq (length p.begun) 256 ≡ v → IsOpen p.begun → length p.begun ≤ 256
+stops_by : (e : Rules) (p : Place) (b : ℕ) (rest : List ℕ) (fault : TraceFault) (t u v : Bool) → nat_lt 16777216 (p.before + length p.begun + 1) ≡ t → nat_eq b 10 ≡ u → nat_eq (length p.begun) 256 ≡ v → IsOpen p.begun → length p.begun ≤ 256
     → Tests e p b t u v ≡ Some (Stops fault)
     → (line : List ℕ) × (others : List (List ℕ)) × (lines_of (p.begun ++ b ∷ rest) ≡ line ∷ others) × (outcome e p.before p.run line ≡ Stops fault)
 stops_by e p b rest fault true u v d i f opened short h =
@@ -133,7 +133,7 @@ stops_by e p b rest fault false false true d i f opened short h =
     (p.begun ++ b ∷ l.more, l.others, l.is, out_long e p.before p.run p.begun b l.more opened i (grind (arith, nat_tests, f)) (grind (arith, nat_tests, d, f)) ∙ some_same h)
 stops_by e p b rest fault false false false d i f opened short h = absurd cc
 
-fed_stops : (e : Shape) (p : Place) (b : ℕ) (rest : List ℕ) (fault : TraceFault) → IsOpen p.begun → length p.begun ≤ 256 → fed e p b ≡ Some (Stops fault) → told_at e p (b ∷ rest) ≡ stopped p.number fault p.run
+fed_stops : (e : Rules) (p : Place) (b : ℕ) (rest : List ℕ) (fault : TraceFault) → IsOpen p.begun → length p.begun ≤ 256 → fed e p b ≡ Some (Stops fault) → told_at e p (b ∷ rest) ≡ stopped p.number fault p.run
 unfolding fed
 fed_stops e p b rest fault opened short h =
     let l = stops_by e p b rest fault _ _ _ refl refl refl opened short h in
@@ -165,10 +165,10 @@ breaks_more all rest x text run e k = record {
   run_is = k.run_is;
 }
 
-pub breaks_after : (e : Shape) (p q : Place) (a rest : List ℕ) (x : List Piece) (text : List ℕ) (run : Run) → Leads e p a x q → BreaksOff (told_at e q rest) text run → BreaksOff (told_at e p (a ++ rest)) (text_of x ++ text) run
+pub breaks_after : (e : Rules) (p q : Place) (a rest : List ℕ) (x : List Piece) (text : List ℕ) (run : Run) → Leads e p a x q → BreaksOff (told_at e q rest) text run → BreaksOff (told_at e p (a ++ rest)) (text_of x ++ text) run
 breaks_after e p q a rest x text run h k = breaks_more (told_at e p (a ++ rest)) (told_at e q rest) x text run (told_leads e p q a rest x h) k
 
-quiet_fed : (e : Shape) (p : Place) (b : ℕ) (now : Run) (old new : Writing) (q : Place) (end : Step) → IsOpen p.begun → length p.begun ≤ 256 → fed e p b ≡ None → Quiet p.run now old new end
+quiet_fed : (e : Rules) (p : Place) (b : ℕ) (now : Run) (old new : Writing) (q : Place) (end : Step) → IsOpen p.begun → length p.begun ≤ 256 → fed e p b ≡ None → Quiet p.run now old new end
     → (end ≡ step.Goes → q ≡ fed_place p b now) → Fed e p (b ∷ []) q old new end
 quiet_fed e p b now old new q step.Stops opened short h put place = absurd put
 quiet_fed e p b now old new q step.SinkFailed opened short h put place = absurd put
@@ -176,7 +176,7 @@ quiet_fed e p b now old new q step.Goes opened short h put place =
     let w : fed_place p b p.run ≡ q = ap (fed_place p b) (sym put.0) ∙ sym (place refl) in
     ([], puts_none_at old new put.1, subst (λ r. Leads e p (b ∷ []) [] r) w (fed_quiet e p b opened short h))
 
-answers_fed : (e : Shape) (p : Place) (b : ℕ) (call : Call) (answer : Answer) (next now : Run) (old new : Writing) (q : Place) (end : Step) → IsOpen p.begun → length p.begun ≤ 256 → fed e p b ≡ Some (Answers call answer next) → now ≡ next → AnswerPut old new (answer_text call answer) end
+answers_fed : (e : Rules) (p : Place) (b : ℕ) (call : Call) (answer : Answer) (next now : Run) (old new : Writing) (q : Place) (end : Step) → IsOpen p.begun → length p.begun ≤ 256 → fed e p b ≡ Some (Answers call answer next) → now ≡ next → AnswerPut old new (answer_text call answer) end
     → (end ≡ step.Goes → q ≡ fed_place p b now) → q.run ≡ now → Fed e p (b ∷ []) q old new end
 answers_fed e p b call answer next now old new q step.Stops opened short h is put place at = absurd put
 answers_fed e p b call answer next now old new q step.Goes opened short h is put place at =
@@ -193,7 +193,7 @@ answers_fed e p b call answer next now old new q step.SinkFailed opened short h 
       (ap (λ (t : Told). t.pieces) (told_leads e p (fed_place p b next) (b ∷ []) rest (answer_piece call answer next ∷ []) (fed_answers e p b call answer next opened short h))) put.1),
 )
 
-stops_fed : (e : Shape) (p : Place) (b : ℕ) (fault : TraceFault) (now : Run) (old new : Writing) (q : Place) (end : Step) → IsOpen p.begun → length p.begun ≤ 256 → fed e p b ≡ Some (Stops fault) → now ≡ p.run → StopPut old new (fault_text p.number fault) end
+stops_fed : (e : Rules) (p : Place) (b : ℕ) (fault : TraceFault) (now : Run) (old new : Writing) (q : Place) (end : Step) → IsOpen p.begun → length p.begun ≤ 256 → fed e p b ≡ Some (Stops fault) → now ≡ p.run → StopPut old new (fault_text p.number fault) end
     → q.run ≡ now → Fed e p (b ∷ []) q old new end
 stops_fed e p b fault now old new q step.Goes opened short h is put at = absurd put
 stops_fed e p b fault now old new q step.Stops opened short h is put at = (
@@ -208,22 +208,22 @@ stops_fed e p b fault now old new q step.SinkFailed opened short h is put at = (
       (breaks_first _ (line_piece p.run (fault_text p.number fault)) [] put.0 (ap (λ (t : Told). t.pieces) (fed_stops e p b rest fault opened short h)) put.1),
 )
 
-by_outcome : (e : Shape) (p : Place) (b : ℕ) (o : Option Outcome) (now : Run) (old new : Writing) (q : Place) (end : Step) → fed e p b ≡ o → IsOpen p.begun → length p.begun ≤ 256 → ByteStepped o p.number p.run now old new end
+by_outcome : (e : Rules) (p : Place) (b : ℕ) (o : Option Outcome) (now : Run) (old new : Writing) (q : Place) (end : Step) → fed e p b ≡ o → IsOpen p.begun → length p.begun ≤ 256 → ByteStepped o p.number p.run now old new end
     → (end ≡ step.Goes → q ≡ fed_place p b now) → q.run ≡ now → Fed e p (b ∷ []) q old new end
 by_outcome e p b None now old new q end is opened short h place at = quiet_fed e p b now old new q end opened short is h place
 by_outcome e p b (Some (Answers call answer next)) now old new q end is opened short h place at = answers_fed e p b call answer next now old new q end opened short is h.0 h.1 place at
 by_outcome e p b (Some (Stops fault)) now old new q end is opened short h place at = stops_fed e p b fault now old new q end opened short is h.0 h.1 at
 
 -- one byte
-fed_byte : (e : Shape) (p : Place) (b : ℕ) (old new : Writing) (q : Place) (end : Step) → IsOpen p.begun → length p.begun ≤ 256 → ByteStepped (fed e p b) p.number p.run q.run old new end → (end ≡ step.Goes → q ≡ fed_place p b q.run) → Fed e p (b ∷ []) q old new end
+fed_byte : (e : Rules) (p : Place) (b : ℕ) (old new : Writing) (q : Place) (end : Step) → IsOpen p.begun → length p.begun ≤ 256 → ByteStepped (fed e p b) p.number p.run q.run old new end → (end ≡ step.Goes → q ≡ fed_place p b q.run) → Fed e p (b ∷ []) q old new end
 fed_byte e p b old new q end opened short h place = by_outcome e p b (fed e p b) q.run old new q end refl opened short h place refl
 
 -- none yet
-pub fed_none : (e : Shape) (p : Place) (now : Writing) → IsOpen p.begun → length p.begun ≤ 256 → PutsAll now now [] → Fed e p [] p now now step.Goes
+pub fed_none : (e : Rules) (p : Place) (now : Writing) → IsOpen p.begun → length p.begun ≤ 256 → PutsAll now now [] → Fed e p [] p now now step.Goes
 fed_none e p now opened short h = ([], h, leads_none e p opened short)
 
 -- first some bytes, and then more
-pub fed_then : (e : Shape) (p q r : Place) (a b : List ℕ) (old mid new : Writing) (end : Step) → Fed e p a q old mid step.Goes → Fed e q b r mid new end → Fed e p (a ++ b) r old new end
+pub fed_then : (e : Rules) (p q r : Place) (a b : List ℕ) (old mid new : Writing) (end : Step) → Fed e p a q old mid step.Goes → Fed e q b r mid new end → Fed e p (a ++ b) r old new end
 fed_then e p q r a b old mid new step.Goes h k =
     (h.0 ++ k.0, subst (λ xs. PutsAll old new xs) (sym (flat_map-append (λ (piece : Piece). piece.text) h.0 k.0)) (puts_more old mid new _ _ h.1 k.1), leads_trans e p q r a b h.0 k.0 h.2 k.2)
 fed_then e p q r a b old mid new step.Stops h k = (
@@ -238,13 +238,13 @@ fed_then e p q r a b old mid new step.SinkFailed h k = (
 )
 
 -- what ended the run early ends it whatever follows
-fed_front : (e : Shape) (p q : Place) (a b : List ℕ) (old new : Writing) (end : Step) → (end ≡ step.Goes → ⊥) → Fed e p a q old new end → Fed e p (a ++ b) q old new end
+fed_front : (e : Rules) (p q : Place) (a b : List ℕ) (old new : Writing) (end : Step) → (end ≡ step.Goes → ⊥) → Fed e p a q old new end → Fed e p (a ++ b) q old new end
 fed_front e p q a b old new step.Goes n h = absurd (n refl)
 fed_front e p q a b old new step.Stops n h = (h.0, h.1, λ rest. ap (told_at e p) (append_assoc a b rest) ∙ h.2 (b ++ rest))
 fed_front e p q a b old new step.SinkFailed n h = (h.0, h.1, λ rest. subst (λ xs. BreaksOff (told_at e p xs) h.0 q.run) (sym (append_assoc a b rest)) (h.2 (b ++ rest)))
 
 -- one byte more, on a heap whose shape stays
-pub feed_turn : (e f : Shape) (p q r : Place) (bytes : List ℕ) (i b : ℕ) (old mid new : Writing) (end : Step) → f ≡ e → i < length bytes → b ≡ get_or bytes i 0 → Fed e p (take i bytes) q old mid step.Goes
+pub feed_turn : (e f : Rules) (p q r : Place) (bytes : List ℕ) (i b : ℕ) (old mid new : Writing) (end : Step) → f ≡ e → i < length bytes → b ≡ get_or bytes i 0 → Fed e p (take i bytes) q old mid step.Goes
     → ByteStepped (fed f q b) q.number q.run r.run mid new end → (end ≡ step.Goes → r ≡ fed_place q b r.run) → Fed e p (take (i + 1) bytes) r old new end
 feed_turn e f p q r bytes i b old mid new end same h is k s place =
     let t : take i bytes ++ b ∷ [] ≡ take (i + 1) bytes = ap (λ c. take i bytes ++ c ∷ []) is ∙ sym (take_more bytes i 0 h) in
@@ -252,5 +252,5 @@ feed_turn e f p q r bytes i b old mid new end same h is k s place =
     subst (λ xs. Fed e p xs r old new end) t (fed_then e p q r (take i bytes) (b ∷ []) old mid new end k (fed_byte e q b mid new r end k.2.cut.open_rest k.2.short s' place))
 
 -- what ended the run within the bytes
-pub feed_stop : (e : Shape) (p r : Place) (bytes : List ℕ) (n : ℕ) (old new : Writing) (end : Step) → (end ≡ step.Goes → ⊥) → Fed e p (take n bytes) r old new end → Fed e p bytes r old new end
+pub feed_stop : (e : Rules) (p r : Place) (bytes : List ℕ) (n : ℕ) (old new : Writing) (end : Step) → (end ≡ step.Goes → ⊥) → Fed e p (take n bytes) r old new end → Fed e p bytes r old new end
 feed_stop e p r bytes n old new end h k = subst (λ xs. Fed e p xs r old new end) (take-append-drop n bytes) (fed_front e p r (take n bytes) (drop n bytes) old new end h k)

@@ -4,12 +4,11 @@ pub mod LineFacts
 pub mod Outcomes
 pub mod Answered
 pub mod Going
-pub mod FactCounts
-pub mod WorldTotals
 pub mod ReportLemmas
 pub mod Running
 pub mod Whole
 pub mod Asking
+pub mod Tells
 pub mod Clauses
 pub mod Obeying
 pub mod RootLemmas

@@ -1,16 +1,13 @@
 -- Lines that are put one after another, and the report.
-use Rattle.std.proofs.Common.{◌≡◌, ℕ, zero, suc, ◌+◌, ◌≤◌, ◌<◌, List, [], ◌∷◌, ◌++◌, length, take, drop, map, Option, Some, None, Result, Ok, Err, refl, sym, ap, ◌∙◌, subst, append_assoc, append-nil, arith, get_or, drop-cons, add-one, sum_by, codes, ◌-◌}
+use Rattle.std.proofs.Common.{◌≡◌, ℕ, zero, suc, ◌+◌, ◌≤◌, ◌<◌, List, [], ◌∷◌, ◌++◌, length, take, drop, map, Option, Some, None, Result, Ok, Err, refl, sym, ap, ◌∙◌, subst, append_assoc, append-nil, arith, get_or, drop-cons, add-one, codes, ◌-◌}
 use Rattle.std.specs.Prelude.{slice_get, IsErr}
 use Rattle.std.proofs.Math.ListN.{drop_of_length-le}
 use Rattle.space_core.specs.Memory.{Memory}
 use Rattle.layer_rules.specs.declared.Fact.{Fact}
-use Rattle.layer_rules.specs.Facts.{facts}
-use Rattle.layer_rules.specs.Layering.{Tree, state_of}
-use Rattle.layer_rules.specs.Shape.{Shape}
+use Rattle.layer_rules.specs.Layering.{LayerModel, state_of}
+use Rattle.layer_rules.specs.Rules.{Rules}
 use Rattle.heap_core.specs.declared.Named.{Named}
-use Rattle.heap_core.specs.Heap.{extent_len}
 use Rattle.heap_core.specs.Holding.{run_in, world_of}
-use Rattle.heap_core.specs.Names.{asked_by}
 use Rattle.heap_core.specs.Performing.{Run}
 use Rattle.source_sink.specs.declared.Failed.{Failed}
 use Rattle.play_core.proofs.Answered.{some_same}
@@ -22,7 +19,6 @@ use Rattle.play_core.specs.Told.{line_piece, reported, text_of}
 use Rattle.play_core.specs.Ends.{LinesPut, PutsLines, Finishes}
 use Rattle.play_core.proofs.LineFacts.{joined-append}
 use Rattle.play_core.proofs.PutLemmas.{puts_none, puts_more, fails_more, puts_along}
-use Rattle.play_core.proofs.WorldTotals.{asked_total, extent_total, live_total}
 
 -- some lines were put, and these are left
 pub record PutSoFar (old new : Writing) (all rest : List (List ℕ)) : Type 0 where
@@ -120,11 +116,11 @@ pieces_append run [] ys = refl
 pieces_append run (x ∷ xs) ys = ap (λ zs. line_piece run x ∷ zs) (pieces_append run xs ys)
 
 -- the report was put
-pub report_put : (e : Shape) (run : Run) (a b : Writing) → PutsAll a b (joined (report_of e run)) → Finishes (reported e run) run a b Good
+pub report_put : (e : Rules) (run : Run) (a b : Writing) → PutsAll a b (joined (report_of e run)) → Finishes (reported e run) run a b Good
 report_put e run a b h = (map (line_piece run) (report_of e run), puts_along a b _ _ (sym (pieces_text run (report_of e run))) h, refl)
 
 -- the sink failed within it
-pub report_fails : (e : Shape) (run : Run) (a b : Writing) → PutsLines a b (report_of e run) → Finishes (reported e run) run a b WriteFault
+pub report_fails : (e : Rules) (run : Run) (a b : Writing) → PutsLines a b (report_of e run) → Finishes (reported e run) run a b WriteFault
 report_fails e run a b h = (
   joined h.front ++ take h.count h.line,
   h.fails,
@@ -150,33 +146,30 @@ pub node_none : (w : Writing) (o : Option (List ℕ)) → None ≡ o → PutsAll
 node_none w o e = subst (λ (x : Option (List ℕ)). PutsAll w w (joined (and_lines x []))) e (puts_none w)
 
 -- the totals, line by line
-pub totals_put : (t : Tree) (table : List Named) (m : Memory) (a b : Writing) (live asked taken slack : ℕ) (x y z u : List ℕ) (r : Result (Unit {0}) Failed)
-    → live ≡ length table → asked ≡ asked_by table → taken ≡ sum_by (extent_len t) table → slack ≡ taken - asked
+pub totals_put : (t : LayerModel) (table : List Named) (m : Memory) (a b : Writing) (live asked taken slack : ℕ) (x y z u : List ℕ) (r : Result (Unit {0}) Failed)
+    → live ≡ length (world_of table m.bytes) → asked ≡ asked_in (run_in t table m) → taken ≡ extent_in t.rules (run_in t table m) → slack ≡ taken - asked
     → x ≡ total_line (codes "live") live → y ≡ total_line (codes "asked") asked → z ≡ total_line (codes "extent") taken → u ≡ total_line (codes "slack") slack
-    → LinesPut a b (x ∷ y ∷ z ∷ u ∷ []) r → LinesPut a b (total_lines t.shape (run_in t table m)) r
-totals_put t table m a b live asked taken slack x y z u r el ea et es ex ey ez eu h =
-    let l : live ≡ length (world_of table m.bytes) = el ∙ sym (live_total table m) in
-    let k : asked ≡ asked_in (run_in t table m) = ea ∙ sym (asked_total t table m) in
-    let n : taken ≡ extent_in t.shape (run_in t table m) = et ∙ sym (extent_total t table m) in
-    let s : slack ≡ extent_in t.shape (run_in t table m) - asked_in (run_in t table m) = es ∙ ap (λ v. v - asked) n ∙ ap (λ v. extent_in t.shape (run_in t table m) - v) k in
-    let ls : x ∷ y ∷ z ∷ u ∷ [] ≡ total_lines t.shape (run_in t table m) =
+    → LinesPut a b (x ∷ y ∷ z ∷ u ∷ []) r → LinesPut a b (total_lines t.rules (run_in t table m)) r
+totals_put t table m a b live asked taken slack x y z u r l k n es ex ey ez eu h =
+    let s : slack ≡ extent_in t.rules (run_in t table m) - asked_in (run_in t table m) = es ∙ ap (λ v. v - asked) n ∙ ap (λ v. extent_in t.rules (run_in t table m) - v) k in
+    let ls : x ∷ y ∷ z ∷ u ∷ [] ≡ total_lines t.rules (run_in t table m) =
     ap (λ v. v ∷ y ∷ z ∷ u ∷ []) (ex ∙ ap (total_line (codes "live")) l)
     ∙ ap (λ v. total_line (codes "live") (length (world_of table m.bytes)) ∷ v ∷ z ∷ u ∷ []) (ey ∙ ap (total_line (codes "asked")) k)
     ∙ ap (λ v. total_line (codes "live") (length (world_of table m.bytes)) ∷ total_line (codes "asked") (asked_in (run_in t table m)) ∷ v ∷ u ∷ []) (ez ∙ ap (total_line (codes "extent")) n)
-    ∙ ap (λ v. total_line (codes "live") (length (world_of table m.bytes)) ∷ total_line (codes "asked") (asked_in (run_in t table m)) ∷ total_line (codes "extent") (extent_in t.shape (run_in t table m)) ∷ v ∷ []) (eu ∙ ap (total_line (codes "slack")) s) in
+    ∙ ap (λ v. total_line (codes "live") (length (world_of table m.bytes)) ∷ total_line (codes "asked") (asked_in (run_in t table m)) ∷ total_line (codes "extent") (extent_in t.rules (run_in t table m)) ∷ v ∷ []) (eu ∙ ap (total_line (codes "slack")) s) in
     subst (λ lines. LinesPut a b lines r) ls h
 
 -- the nodes after the totals
-pub report_done : (t u : Tree) (table : List Named) (m : Memory) (a b c : Writing) (r : Result (Unit {0}) Failed) → u ≡ t → PutsAll a b (joined (total_lines t.shape (run_in t table m)))
-    → LinesPut b c (node_lines 0 (facts u.shape (state_of u m) m.cells)) r → LinesPut a c (report_of t.shape (run_in t table m)) r
+pub report_done : (t u : LayerModel) (table : List Named) (m : Memory) (a b c : Writing) (r : Result (Unit {0}) Failed) → u ≡ t → PutsAll a b (joined (total_lines t.rules (run_in t table m)))
+    → LinesPut b c (node_lines 0 (u.rules.facts (state_of u m) m.cells)) r → LinesPut a c (report_of t.rules (run_in t table m)) r
 unfolding report_of
 report_done t u table m a b c r same h k =
-    lines_then a b c (total_lines t.shape (run_in t table m)) (node_lines 0 (facts t.shape (state_of t m) m.cells)) r h (subst (λ (v : Tree). LinesPut b c (node_lines 0 (facts v.shape (state_of v m) m.cells)) r) same k)
+    lines_then a b c (total_lines t.rules (run_in t table m)) (node_lines 0 (t.rules.facts (state_of t m) m.cells)) r h (subst (λ (v : LayerModel). LinesPut b c (node_lines 0 (v.rules.facts (state_of v m) m.cells)) r) same k)
 
 -- the sink failed within the totals
-pub report_cut : (t : Tree) (table : List Named) (m : Memory) (a b : Writing) → PutsLines a b (total_lines t.shape (run_in t table m)) → PutsLines a b (report_of t.shape (run_in t table m))
+pub report_cut : (t : LayerModel) (table : List Named) (m : Memory) (a b : Writing) → PutsLines a b (total_lines t.rules (run_in t table m)) → PutsLines a b (report_of t.rules (run_in t table m))
 unfolding report_of
-report_cut t table m a b h = lines_fail a b (total_lines t.shape (run_in t table m)) (node_lines 0 (facts t.shape (state_of t m) m.cells)) h
+report_cut t table m a b h = lines_fail a b (total_lines t.rules (run_in t table m)) (node_lines 0 (t.rules.facts (state_of t m) m.cells)) h
 
 -- an answer that is an error, whatever its error says
 pub lines_erred : (a b : Writing) (lines : List (List ℕ)) (r : Result (Unit {0}) Failed) → IsErr r → PutsLines a b lines → LinesPut a b lines r

@@ -2,7 +2,7 @@
 use Rattle.std.proofs.Common.{◌≡◌, ℕ, ◌+◌, ◌-◌, ◌≤◌, ◌<◌, Bool, true, false, List, [], ◌∷◌, ◌++◌, length, take, Option, Some, None, append-nil, append_assoc, sym, ap, ◌∙◌, subst, refl, arith, length-append, nat_eq}
 use Rattle.std.proofs.lemmas.Bool.Decides.{nat_tests}
 use Rattle.std.proofs.lemmas.List.Concat.{flat_map-append}
-use Rattle.layer_rules.specs.Shape.{Shape}
+use Rattle.layer_rules.specs.Rules.{Rules}
 use Rattle.heap_core.specs.Performing.{Run}
 use Rattle.source_sink.specs.Sources.{Takes, IsAtEnd}
 use Rattle.trace_text.specs.Grammar.{line_call}
@@ -11,7 +11,6 @@ use Rattle.play_core.specs.declared.Status.{Status}
 use Rattle.play_core.specs.declared.Status.TheVariants.{Good, Usage, Expression, Trace, ReadFault, WriteFault, OpeningRefused, NoMemory}
 use Rattle.play_core.specs.declared.reader.Reader.{Reader}
 use Rattle.play_core.specs.declared.Step.{Step}
-use Rattle.play_core.specs.declared.Step.TheVariants as step
 use Rattle.play_core.specs.Devices.{Writing, Reading, PutsAll, Took, MayBe}
 use Rattle.play_core.specs.Lines.{IsOpen, lines_of, joined}
 use Rattle.play_core.specs.Outcome.{Outcome, Answers, Stops, read_outcome}
@@ -23,10 +22,11 @@ use Rattle.play_core.proofs.PutLemmas.{puts_none, puts_more, fails_more}
 use Rattle.play_core.proofs.LineFacts.{lines_open}
 use Rattle.play_core.proofs.Outcomes.{out_last}
 use Rattle.play_core.proofs.Going.{told_leads, breaks_first, breaks_after, breaks_more, fed_then, fed_none}
+use Rattle.play_core.specs.declared.Step.TheVariants as step
 
 -- ---- the last line
 
-last_by : (e : Shape) (o : Outcome) (all : Told) (n : ℕ) (s t : Run) (old new : Writing) (end : Step) → all ≡ told_on n s o (reported e) → Stepped o n s t old new end → Lasts e all t old new end
+last_by : (e : Rules) (o : Outcome) (all : Told) (n : ℕ) (s t : Run) (old new : Writing) (end : Step) → all ≡ told_on n s o (reported e) → Stepped o n s t old new end → Lasts e all t old new end
 last_by e (Answers call answer next) all n s t old new step.Goes i h =
     (answer_piece call answer next ∷ [], subst (λ xs. PutsAll old new xs) (sym (append-nil (answer_text call answer))) h.1, i ∙ ap (λ u. after (answer_piece call answer next ∷ []) (reported e u)) (sym h.0))
 last_by e (Answers call answer next) all n s t old new step.Stops i h = absurd h.1
@@ -46,21 +46,21 @@ last_by e (Stops fault) all n s t old new step.SinkFailed i h = (
       (breaks_first all (line_piece s (fault_text n fault)) [] h.1.0 (ap (λ (x : Told). x.pieces) i) h.1.1),
 )
 
-last_told : (e : Shape) (p : Place) (xs : List ℕ) → p.begun ≡ xs → IsOpen xs → 0 < length xs → length xs ≤ 256 → p.before + length xs ≤ 16777216 → told_at e p [] ≡ told_on p.number p.run (read_outcome e p.run (line_call xs)) (reported e)
+last_told : (e : Rules) (p : Place) (xs : List ℕ) → p.begun ≡ xs → IsOpen xs → 0 < length xs → length xs ≤ 256 → p.before + length xs ≤ 16777216 → told_at e p [] ≡ told_on p.number p.run (read_outcome e p.run (line_call xs)) (reported e)
 last_told e p [] i opened some short within = absurd (omega arith)
 last_told e p (x ∷ xs) i opened some short within =
     ap (λ ys. told_from e p.number p.before p.run (lines_of ys)) (append-nil p.begun ∙ i)
     ∙ ap (told_from e p.number p.before p.run) (lines_open x xs opened)
     ∙ ap (λ o. told_on p.number p.run o (reported e)) (out_last e p.before p.run (x ∷ xs) opened short within)
 
-pub last_some : (e : Shape) (p : Place) (t : Run) (old new : Writing) (end : Step) (xs : List ℕ) → xs ≡ p.begun → IsOpen p.begun → 0 < length p.begun → length p.begun ≤ 256 → p.before + length p.begun ≤ 16777216
+pub last_some : (e : Rules) (p : Place) (t : Run) (old new : Writing) (end : Step) (xs : List ℕ) → xs ≡ p.begun → IsOpen p.begun → 0 < length p.begun → length p.begun ≤ 256 → p.before + length p.begun ≤ 16777216
     → Stepped (read_outcome e p.run (line_call xs)) p.number p.run t old new end → Lasts e (told_at e p []) t old new end
 last_some e p t old new end xs i opened some short within h =
     last_by e (read_outcome e p.run (line_call p.begun)) (told_at e p []) p.number p.run t old new end (last_told e p p.begun refl opened some short within)
     (subst (λ ys. Stepped (read_outcome e p.run (line_call ys)) p.number p.run t old new end) i h)
 
 -- the report after the last line, on a heap whose shape stays
-pub last_finish : (e f : Shape) (all : Told) (t : Run) (old mid new : Writing) (end : Status) → f ≡ e → Lasts e all t old mid step.Goes → Finishes (reported f t) t mid new end → Finishes all t old new end
+pub last_finish : (e f : Rules) (all : Told) (t : Run) (old mid new : Writing) (end : Status) → f ≡ e → Lasts e all t old mid step.Goes → Finishes (reported f t) t mid new end → Finishes all t old new end
 last_finish e f all t old mid new Good same h k =
     (h.0 ++ k.0, subst (λ xs. PutsAll old new xs) (sym (flat_map-append (λ (x : Piece). x.text) h.0 k.0)) (puts_more old mid new _ _ h.1 k.1), h.2 ∙ ap (λ g. after h.0 (reported g t)) (sym same) ∙ ap (after h.0) k.2)
 last_finish e f all t old mid new Trace same h k =
@@ -95,23 +95,23 @@ place_same p q a b c d =
     ∙ ap (λ (s : Run). record { number = q.number; before = q.before; begun = q.begun; run = s }) d
 
 -- some bytes were taken, and led to a place
-pub record Going (e : Shape) (s : Run) (r r' : Reading) (w w' : Writing) (q : Place) : Type 0 where
+pub record Going (e : Rules) (s : Run) (r r' : Reading) (w w' : Writing) (q : Place) : Type 0 where
   pub bytes : List ℕ
   pub taken : Takes r.left r'.left bytes
   pub counted : r'.faults ≡ r.faults
   pub opened : r'.finished ≡ false
   pub fed : Fed e (start_of s) bytes q w w' step.Goes
 
-going_none : (e : Shape) (s : Run) (r : Reading) (w : Writing) → r.finished ≡ false → Going e s r r w w (start_of s)
+going_none : (e : Rules) (s : Run) (r : Reading) (w : Writing) → r.finished ≡ false → Going e s r r w w (start_of s)
 going_none e s r w i = record { bytes = []; taken = takes_none r.left; counted = refl; opened = i; fed = fed_none e (start_of s) w tt (omega arith) (puts_none w) }
 
-pub going_at_start : (e : Shape) (reader : Reader) (s : Run) (r : Reading) (w : Writing) → reader.number ≡ 1 → reader.before ≡ 0 → reader.begun.items ≡ [] → r.finished ≡ false → Going e s r r w w (place_of reader s)
+pub going_at_start : (e : Rules) (reader : Reader) (s : Run) (r : Reading) (w : Writing) → reader.number ≡ 1 → reader.before ≡ 0 → reader.begun.items ≡ [] → r.finished ≡ false → Going e s r r w w (place_of reader s)
 going_at_start e reader s r w n b x i =
     let place : Place = place_of reader s in
     let at : place ≡ start_of s = place_same place (start_of s) n b x refl in
     subst (λ (p : Place). Going e s r r w w p) (sym at) (going_none e s r w i)
 
-pub going_more : (e : Shape) (s : Run) (r r' r'' : Reading) (w w' w'' : Writing) (p q : Place) (b : List ℕ) → Going e s r r' w w' p → Takes r'.left r''.left b → r''.faults ≡ r'.faults → r''.finished ≡ false → Fed e p b q w' w'' step.Goes → Going e s r r'' w w'' q
+pub going_more : (e : Rules) (s : Run) (r r' r'' : Reading) (w w' w'' : Writing) (p q : Place) (b : List ℕ) → Going e s r r' w w' p → Takes r'.left r''.left b → r''.faults ≡ r'.faults → r''.finished ≡ false → Fed e p b q w' w'' step.Goes → Going e s r r'' w w'' q
 going_more e s r r' r'' w w' w'' p q b h t c i f = record {
   bytes = h.bytes ++ b;
   taken = takes_more r.left r'.left r''.left h.bytes b h.taken t;
@@ -129,7 +129,7 @@ whole_by true bytes input i h = h
 whole_by false bytes input i h = absurd cc
 
 -- a line was in fault
-pub going_stops : (e : Shape) (s : Run) (r r' r'' : Reading) (w w' w'' : Writing) (p q : Place) (b : List ℕ) → Going e s r r' w w' p → Takes r'.left r''.left b → r''.faults ≡ r'.faults → r''.finished ≡ false → Fed e p b q w' w'' step.Stops → Ran e s q.run r r'' w w'' Trace
+pub going_stops : (e : Rules) (s : Run) (r r' r'' : Reading) (w w' w'' : Writing) (p q : Place) (b : List ℕ) → Going e s r r' w w' p → Takes r'.left r''.left b → r''.faults ≡ r'.faults → r''.finished ≡ false → Fed e p b q w' w'' step.Stops → Ran e s q.run r r'' w w'' Trace
 going_stops e s r r' r'' w w' w'' p q b h t c i f =
     let g = fed_then e (start_of s) p q h.bytes b w w' w'' step.Stops h.fed f in (
       h.bytes ++ b,
@@ -140,7 +140,7 @@ going_stops e s r r' r'' w w' w'' p q b h t c i f =
     )
 
 -- the sink failed
-pub going_breaks : (e : Shape) (s : Run) (r r' r'' : Reading) (w w' w'' : Writing) (p q : Place) (b : List ℕ) → Going e s r r' w w' p → Takes r'.left r''.left b → r''.faults ≡ r'.faults → r''.finished ≡ false → Fed e p b q w' w'' step.SinkFailed → Ran e s q.run r r'' w w'' WriteFault
+pub going_breaks : (e : Rules) (s : Run) (r r' r'' : Reading) (w w' w'' : Writing) (p q : Place) (b : List ℕ) → Going e s r r' w w' p → Takes r'.left r''.left b → r''.faults ≡ r'.faults → r''.finished ≡ false → Fed e p b q w' w'' step.SinkFailed → Ran e s q.run r r'' w w'' WriteFault
 going_breaks e s r r' r'' w w' w'' p q b h t c i f =
     let g = fed_then e (start_of s) p q h.bytes b w w' w'' step.SinkFailed h.fed f in (
       h.bytes ++ b,
@@ -156,7 +156,7 @@ still_at_end None None h k = tt
 still_at_end (Some a) None h k = absurd h
 still_at_end None (Some b) h k = absurd h
 
-end_took : (e : Shape) (s : Run) (r r' r'' : Reading) (w w' : Writing) (q : Place) (h : Going e s r r' w w' q) → Takes r'.left r''.left [] → IsAtEnd r'.left → r''.faults ≡ r'.faults → Took r r'' h.bytes
+end_took : (e : Rules) (s : Run) (r r' r'' : Reading) (w w' : Writing) (q : Place) (h : Going e s r r' w w' q) → Takes r'.left r''.left [] → IsAtEnd r'.left → r''.faults ≡ r'.faults → Took r r'' h.bytes
 end_took e s r r' r'' w w' q h x z c = record {
   taken = subst (λ xs. Takes r.left r''.left xs) (append-nil h.bytes) (takes_more r.left r'.left r''.left h.bytes [] h.taken x);
   counted = c ∙ h.counted;
@@ -164,7 +164,7 @@ end_took e s r r' r'' w w' q h x z c = record {
 }
 
 -- the end came
-pub going_ends : (e : Shape) (s t : Run) (r r' r'' : Reading) (w w' w'' : Writing) (q : Place) (end : Status) → Going e s r r' w w' q → Takes r'.left r''.left [] → IsAtEnd r'.left → r''.faults ≡ r'.faults → r''.finished ≡ true → Finishes (told_at e q []) t w' w'' end → Ran e s t r r'' w w'' end
+pub going_ends : (e : Rules) (s t : Run) (r r' r'' : Reading) (w w' w'' : Writing) (q : Place) (end : Status) → Going e s r r' w w' q → Takes r'.left r''.left [] → IsAtEnd r'.left → r''.faults ≡ r'.faults → r''.finished ≡ true → Finishes (told_at e q []) t w' w'' end → Ran e s t r r'' w w'' end
 going_ends e s t r r' r'' w w' w'' q Good h x z c i f = (
   h.bytes,
   h.fed.0 ++ f.0,
@@ -194,7 +194,7 @@ going_ends e s t r r' r'' w w' w'' q OpeningRefused h x z c i f = absurd f
 going_ends e s t r r' r'' w w' w'' q NoMemory h x z c i f = absurd f
 
 -- how far bytes lead
-pub fed_far : (e : Shape) (p q : Place) (b : List ℕ) (w w' : Writing) → Fed e p b q w w' step.Goes → q.before + length q.begun ≡ p.before + length p.begun + length b
+pub fed_far : (e : Rules) (p q : Place) (b : List ℕ) (w w' : Writing) → Fed e p b q w w' step.Goes → q.before + length q.begun ≡ p.before + length p.begun + length b
 fed_far e p q b w w' h = omega (arith, h.2.before, ap length h.2.cut.all, length-append p.begun b, length-append (joined h.2.lines) q.begun)
 
 -- a source that gave some bytes isn't finished
@@ -209,11 +209,11 @@ pub takes_nothing : (a b : Option (List ℕ)) (bytes : List ℕ) (count : ℕ) �
 takes_nothing a b bytes count h e = subst (λ n. Takes a b (take n bytes)) e h
 
 -- the bytes may be given otherwise, on a heap whose shape stays
-pub fed_along : (e f : Shape) (p q : Place) (b c : List ℕ) (w w' : Writing) (end : Step) → f ≡ e → c ≡ b → Fed f p c q w w' end → Fed e p b q w w' end
+pub fed_along : (e f : Rules) (p q : Place) (b c : List ℕ) (w w' : Writing) (end : Step) → f ≡ e → c ≡ b → Fed f p c q w w' end → Fed e p b q w w' end
 fed_along e f p q b c w w' end same is h = subst (λ xs. Fed e p xs q w w' end) is (subst (λ g. Fed g p c q w w' end) same h)
 
 -- what is told at the end, on a heap whose shape stays
-pub finish_along : (e f : Shape) (p : Place) (t : Run) (w w' : Writing) (end : Status) → f ≡ e → Finishes (told_at f p []) t w w' end → Finishes (told_at e p []) t w w' end
+pub finish_along : (e f : Rules) (p : Place) (t : Run) (w w' : Writing) (end : Status) → f ≡ e → Finishes (told_at f p []) t w w' end → Finishes (told_at e p []) t w w' end
 finish_along e f p t w w' end same h = subst (λ g. Finishes (told_at g p []) t w w' end) same h
 
 pub falls : (a b c n k : ℕ) → a ≡ b + k → k ≡ c → 0 < c → b ≤ n → n + 1 - a < n + 1 - b

@@ -2,9 +2,9 @@
 use Rattle.std.proofs.Common.{◌≡◌, ℕ, zero, suc, inl, inr, List, Ok, Err, refl, sym, subst, replicate}
 use Rattle.space_core.specs.Memory.{Memory, fresh_memory, no_memory}
 use Rattle.layer_rules.specs.After.{Opening}
-use Rattle.layer_rules.specs.Layering.{Tree}
+use Rattle.layer_rules.specs.Layering.{LayerModel}
 use Rattle.layer_rules.specs.Rows.{Each}
-use Rattle.layer_rules.specs.Shape.{Shape}
+use Rattle.layer_rules.specs.Rules.{Rules}
 use Rattle.heap_core.specs.Heap.{Begins}
 use Rattle.heap_core.specs.declared.Named.{Named}
 use Rattle.heap_core.specs.Holding.{Held, run_in}
@@ -30,29 +30,29 @@ free_closed m leaves e = subst HasAllFree (sym e) tt
 
 -- ---- a heap is made, and the trace is run
 
-opens_at : (shape : Shape) (opening : Opening) (run now : Run) (r r' : Reading) (w w' : Writing) (m : Memory) (end : Status) → Begins opening run → Leaves shape now m → Ran shape run now r r' w w' end → Opens shape opening r r' w w' m end
-opens_at shape (Ok o) run now r r' w w' m end h left ran = (now, left, subst (λ (u : Run). Ran shape u now r r' w w' end) h ran)
-opens_at shape (Err node) run now r r' w w' m end h left ran = absurd h
+opens_at : (root : Rules) (opening : Opening) (run now : Run) (r r' : Reading) (w w' : Writing) (m : Memory) (end : Status) → Begins opening run → Leaves root now m → Ran root run now r r' w w' end → Opens root opening r r' w w' m end
+opens_at root (Ok o) run now r r' w w' m end h left ran = (now, left, subst (λ (u : Run). Ran root u now r r' w w' end) h ran)
+opens_at root (Err node) run now r r' w w' m end h left ran = absurd h
 
-pub opens_played : (shape shape' : Shape) (opening : Opening) (run now : Run) (r r' : Reading) (w w' : Writing) (m : Memory) (end : Status) → shape' ≡ shape → Begins opening run → Leaves shape now m → Ran shape' run now r r' w w' end
-    → Opens shape opening r r' w w' m end
-opens_played shape shape' opening run now r r' w w' m end same h left ran =
-    opens_at shape opening run now r r' w w' m end h left (subst (λ (s : Shape). Ran s run now r r' w w' end) same ran)
+pub opens_played : (root root' : Rules) (opening : Opening) (run now : Run) (r r' : Reading) (w w' : Writing) (m : Memory) (end : Status) → root' ≡ root → Begins opening run → Leaves root now m → Ran root' run now r r' w w' end
+    → Opens root opening r r' w w' m end
+opens_played root root' opening run now r r' w w' m end same h left ran =
+    opens_at root opening run now r r' w w' m end h left (subst (λ (s : Rules). Ran s run now r r' w w' end) same ran)
 
 -- the heap holds in the Space what its run says
-pub left_by : (t : Tree) (table : List Named) (m : Memory) (shape : Shape) → t.shape ≡ shape → Held t table m → Leaves shape (run_in t table m) m
-left_by t table m shape e h = record { tree = t; table = table; shape_is = e; held = h; run_is = refl }
+pub left_by : (t : LayerModel) (table : List Named) (m : Memory) (root : Rules) → t.rules ≡ root → Held t table m → Leaves root (run_in t table m) m
+left_by t table m root e h = record { model = t; table = table; rules_are = e; held = h; run_is = refl }
 
 -- a trace that was run doesn't end early
-pub ran_late : (shape : Shape) (run now : Run) (r r' : Reading) (w w' : Writing) (end : Status) → Ran shape run now r r' w w' end → IsEarly end → ⊥
-ran_late shape run now r r' w w' Good h e = e
-ran_late shape run now r r' w w' Trace h e = e
-ran_late shape run now r r' w w' ReadFault h e = e
-ran_late shape run now r r' w w' WriteFault h e = e
-ran_late shape run now r r' w w' Usage h e = h
-ran_late shape run now r r' w w' Expression h e = h
-ran_late shape run now r r' w w' OpeningRefused h e = h
-ran_late shape run now r r' w w' NoMemory h e = h
+pub ran_late : (root : Rules) (run now : Run) (r r' : Reading) (w w' : Writing) (end : Status) → Ran root run now r r' w w' end → IsEarly end → ⊥
+ran_late root run now r r' w w' Good h e = e
+ran_late root run now r r' w w' Trace h e = e
+ran_late root run now r r' w w' ReadFault h e = e
+ran_late root run now r r' w w' WriteFault h e = e
+ran_late root run now r r' w w' Usage h e = h
+ran_late root run now r r' w w' Expression h e = h
+ran_late root run now r r' w w' OpeningRefused h e = h
+ran_late root run now r r' w w' NoMemory h e = h
 
 -- ---- one text
 

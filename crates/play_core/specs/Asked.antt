@@ -1,12 +1,12 @@
 -- Asked: what words ask for.
 use Rattle.std.specs.Prelude.{ℕ, ◌≡◌, List, Option, Some, None, IsOk, IsErr, ⊤}
 use Rattle.layer_rules.specs.After.{Opening}
-use Rattle.layer_rules.specs.Serving.{open_tree}
-use Rattle.layer_rules.specs.Shape.{Shape}
+use Rattle.layer_rules.specs.Rules.{Rules}
 use Rattle.space_core.specs.Cells.{Cells}
 use Rattle.space_core.specs.Memory.{fresh_memory}
 use Rattle.expr_reader.specs.declared.fault.ExprFault.{ExprFault}
 use Rattle.expr_reader.specs.Answers.{IsAccepted, HasFault}
+use Rattle.shapes.specs.RulesOf.{rules_of}
 use Rattle.expr_reader.specs.ShapeOf.{shape_of}
 use Rattle.expr_reader.specs.Trees.{Tree as Expression}
 use Rattle.play_core.specs.Command.{Command, check, replay, command_of, expression_in}
@@ -43,8 +43,8 @@ AllWordsAskOnce = (words : List (List ℕ)) → (asked : Asked) × Asks words as
 -- ---- the heap of a replay
 
 -- the root that an expression stands for: its leaves are the first of the Space
-abbrev pub root_of : Expression → Shape
-root_of e = shape_of e 0
+abbrev pub root_of : Expression → Rules
+root_of e = rules_of (shape_of e 0)
 
 -- a table of so many free cells
 abbrev pub free_cells : (count : ℕ) → Cells
@@ -52,7 +52,7 @@ free_cells count = let m = fresh_memory count 0 in m.cells
 
 -- what opening the root gives there, with nothing asked of it first
 abbrev pub opening_of : Expression → (cells : ℕ) → Opening
-opening_of e cells = open_tree (root_of e) 0 (free_cells cells)
+opening_of e cells = (root_of e).set_up 0 (free_cells cells)
 
 -- the words ask for a trace to be run on a root that is granted, or refused
 abbrev pub IsGranted : (words : List (List ℕ)) → Type 0

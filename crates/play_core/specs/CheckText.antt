@@ -2,8 +2,7 @@
 use Rattle.std.specs.Prelude.{ℕ, ◌++◌, ◌||◌, ◌∷◌, Bool, List, [], codes, if◌then◌else◌}
 use Rattle.std.specs.Fmt.{decimal}
 use Rattle.layer_rules.specs.declared.Offers.{Offers}
-use Rattle.layer_rules.specs.Offering.{alignment, offers}
-use Rattle.layer_rules.specs.Shape.{Shape, nodes}
+use Rattle.layer_rules.specs.Rules.{Rules}
 use Rattle.expr_reader.specs.Canonical.{canonical}
 use Rattle.expr_reader.specs.Trees.{Tree as Expression}
 use Rattle.play_core.specs.Asked.{root_of}
@@ -19,11 +18,11 @@ offers_text o =
     then offered o.owns (codes "owns") ++ (offered o.expand (codes "expand") ++ (offered o.aligned (codes "aligned") ++ offered o.all (codes "all")))
     else codes " none"
 
--- the nodes of a shape, the alignment of its blocks, and what it offers, each on a line
-unfoldable pub shape_text : Shape → List ℕ
-shape_text s =
-    codes "nodes " ++ (decimal (nodes s) ++ (codes "\nalign " ++ (decimal (alignment s) ++ (codes "\noffers" ++ (offers_text (offers s) ++ codes "\n")))))
+-- the nodes of a composition, the alignment of its blocks, and what it offers, each on a line
+unfoldable pub rules_text : Rules → List ℕ
+rules_text s =
+    codes "nodes " ++ (decimal s.nodes ++ (codes "\nalign " ++ (decimal s.alignment ++ (codes "\noffers" ++ (offers_text s.offers ++ codes "\n")))))
 
--- the canonical text of an expression on a line, and those of its shape
+-- the canonical text of an expression on a line, and what is told of its layers
 abbrev pub check_text : Expression → List ℕ
-check_text e = canonical e ++ (codes "\n" ++ shape_text (root_of e))
+check_text e = canonical e ++ (codes "\n" ++ rules_text (root_of e))

@@ -1,6 +1,6 @@
 -- Outcome: what one line of a trace does.
 use Rattle.std.specs.Prelude.{ℕ, ◌+◌, ◌&&◌, nat_lt, nat_le, List, length, Result, Ok, Err, if◌then◌else◌}
-use Rattle.layer_rules.specs.Shape.{Shape}
+use Rattle.layer_rules.specs.Rules.{Rules}
 use Rattle.heap_core.specs.declared.Call.{Call}
 use Rattle.heap_core.specs.declared.Answer.{Answer}
 use Rattle.heap_core.specs.declared.CallFault.{CallFault}
@@ -31,14 +31,14 @@ call_outcome call (Ok answer) next = Answers call answer next
 call_outcome call (Err fault) next = Stops (CallIn fault)
 
 -- of a line that was read
-abbrev pub read_outcome : Shape → Run → Result Call LineFault → Outcome
-read_outcome shape run (Ok call) = call_outcome call (performed shape call run).0 (performed shape call run).1
-read_outcome shape run (Err fault) = Stops (LineIn fault)
+abbrev pub read_outcome : Rules → Run → Result Call LineFault → Outcome
+read_outcome root run (Ok call) = call_outcome call (performed root call run).0 (performed root call run).1
+read_outcome root run (Err fault) = Stops (LineIn fault)
 
 -- Of a line, with its newline, before which so many bytes stand. A line is too long with its 257th byte, and the input
 -- with byte 16,777,217, whichever comes first.
-unfoldable pub outcome : Shape → (before : ℕ) → Run → (line : List ℕ) → Outcome
-outcome shape before run line =
+unfoldable pub outcome : Rules → (before : ℕ) → Run → (line : List ℕ) → Outcome
+outcome root before run line =
     if nat_lt most_line (length (body_of line)) && nat_le (before + 257) most_input then Stops (LineIn NotBuiltYet) else
     (if nat_lt most_input (before + length line) then Stops TooMuchInput else
-    read_outcome shape run (line_call (body_of line)))
+    read_outcome root run (line_call (body_of line)))

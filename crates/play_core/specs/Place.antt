@@ -1,6 +1,6 @@
 -- Place: how far a trace has come.
 use Rattle.std.specs.Prelude.{◌≡◌, ℕ, ◌+◌, ◌≤◌, List, ◌∷◌, [], ◌++◌, length, Option, Some, None, nat_eq, nat_lt, if◌then◌else◌}
-use Rattle.layer_rules.specs.Shape.{Shape}
+use Rattle.layer_rules.specs.Rules.{Rules}
 use Rattle.heap_core.specs.Performing.{Run}
 use Rattle.trace_text.specs.declared.LineFault.TheVariants.{NotBuiltYet}
 use Rattle.trace_text.specs.declared.TraceFault.TheVariants.{Line as LineIn, TooMuchInput}
@@ -26,23 +26,23 @@ abbrev pub start_of : Run → Place
 start_of run = record { number = 1; before = 0; begun = []; run = run }
 
 -- what the rest of an input is told from there
-abbrev pub told_at : Shape → Place → (rest : List ℕ) → Told
-told_at shape p rest = told_from shape p.number p.before p.run (lines_of (p.begun ++ rest))
+abbrev pub told_at : Rules → Place → (rest : List ℕ) → Told
+told_at root p rest = told_from root p.number p.before p.run (lines_of (p.begun ++ rest))
 
 -- These bytes lead from p to q, and these pieces answer the lines that are whole then.
-pub record Leads (shape : Shape) (p : Place) (bytes : List ℕ) (pieces : List Piece) (q : Place) : Type 0 where
+pub record Leads (root : Rules) (p : Place) (bytes : List ℕ) (pieces : List Piece) (q : Place) : Type 0 where
   pub lines : List (List ℕ)
   pub cut : Cut (p.begun ++ bytes) lines q.begun
-  pub answers : answers_from shape p.before p.run lines ≡ Some (pieces, q.run)
+  pub answers : answers_from root p.before p.run lines ≡ Some (pieces, q.run)
   pub number : q.number ≡ p.number + length lines
   pub before : q.before ≡ p.before + length (joined lines)
   pub short : length q.begun ≤ most_line
 
 -- what the next byte does, where it ends the line or the trace
-unfoldable pub fed : Shape → Place → (byte : ℕ) → Option Outcome
-fed shape p b =
+unfoldable pub fed : Rules → Place → (byte : ℕ) → Option Outcome
+fed root p b =
     if nat_lt most_input (p.before + length p.begun + 1) then Some (Stops TooMuchInput) else
-    (if nat_eq b 10 then Some (read_outcome shape p.run (line_call p.begun)) else
+    (if nat_eq b 10 then Some (read_outcome root p.run (line_call p.begun)) else
     (if nat_eq (length p.begun) most_line then Some (Stops (LineIn NotBuiltYet)) else None))
 
 -- where it leads

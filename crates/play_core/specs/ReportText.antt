@@ -2,11 +2,9 @@
 use Rattle.std.specs.Prelude.{ℕ, ◌+◌, ◌-◌, List, [], ◌∷◌, ◌++◌, Option, Some, None, length, sum_by, nat_eq, codes, if◌then◌else◌}
 use Rattle.std.specs.Fmt.{decimal}
 use Rattle.layer_rules.specs.declared.Fact.{Fact}
-use Rattle.layer_rules.specs.declared.Fact.TheVariants as said
-use Rattle.layer_rules.specs.Facts.{facts}
-use Rattle.layer_rules.specs.Ownership.{extent}
-use Rattle.layer_rules.specs.Shape.{Shape}
+use Rattle.layer_rules.specs.Rules.{Rules}
 use Rattle.heap_core.specs.Performing.{Run}
+use Rattle.layer_rules.specs.declared.Fact.TheVariants as said
 
 -- a word, a space, a number and a newline
 abbrev pub total_line : (word : List ℕ) (number : ℕ) → List ℕ
@@ -41,15 +39,15 @@ node_lines node (fact ∷ facts) = and_lines (fact_line node fact) (node_lines (
 abbrev pub asked_in : Run → ℕ
 asked_in run = sum_by (λ x. x.block.len) run.world
 
-abbrev pub extent_in : Shape → Run → ℕ
-extent_in shape run = sum_by (λ x. (extent shape x.block run.state).len) run.world
+abbrev pub extent_in : Rules → Run → ℕ
+extent_in root run = sum_by (λ x. (root.extent x.block run.state).len) run.world
 
 -- the totals
-abbrev pub total_lines : Shape → Run → List (List ℕ)
-total_lines shape run =
+abbrev pub total_lines : Rules → Run → List (List ℕ)
+total_lines root run =
     total_line (codes "live") (length run.world) ∷ total_line (codes "asked") (asked_in run)
-    ∷ total_line (codes "extent") (extent_in shape run) ∷ total_line (codes "slack") (extent_in shape run - asked_in run) ∷ []
+    ∷ total_line (codes "extent") (extent_in root run) ∷ total_line (codes "slack") (extent_in root run - asked_in run) ∷ []
 
 -- the report
-unfoldable pub report_of : Shape → Run → List (List ℕ)
-report_of shape run = total_lines shape run ++ node_lines 0 (facts shape run.state run.cells)
+unfoldable pub report_of : Rules → Run → List (List ℕ)
+report_of root run = total_lines root run ++ node_lines 0 (root.facts run.state run.cells)

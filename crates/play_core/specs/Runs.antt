@@ -2,8 +2,8 @@
 use Rattle.std.specs.Prelude.{◌≡◌, ℕ, ◌⊎◌, List, [], Ok, Err, ⊤}
 use Rattle.space_core.specs.Memory.{Memory}
 use Rattle.layer_rules.specs.Rows.{Each}
-use Rattle.layer_rules.specs.Shape.{Shape}
-use Rattle.layer_rules.specs.Layering.{Tree}
+use Rattle.layer_rules.specs.Rules.{Rules}
+use Rattle.layer_rules.specs.Layering.{LayerModel}
 use Rattle.layer_rules.specs.After.{Opening}
 use Rattle.heap_core.specs.declared.Named.{Named}
 use Rattle.heap_core.specs.Holding.{Held, run_in}
@@ -22,13 +22,13 @@ use Rattle.play_core.specs.Told.{text_of}
 abbrev pub HasAllFree : Memory → Type 0
 HasAllFree m = Each (λ tag. tag ≡ 0) m.cells.tags
 
--- a heap, with a root of this shape, holds in the Space what the run says
-pub record Leaves (shape : Shape) (run : Run) (m : Memory) : Type 0 where
-  pub tree : Tree
+-- a heap, with a root of these rules, holds in the Space what the run says
+pub record Leaves (root : Rules) (run : Run) (m : Memory) : Type 0 where
+  pub model : LayerModel
   pub table : List Named
-  pub shape_is : tree.shape ≡ shape
-  pub held : Held tree table m
-  pub run_is : run_in tree table m ≡ run
+  pub rules_are : model.rules ≡ root
+  pub held : Held model table m
+  pub run_is : run_in model table m ≡ run
 
 -- one text was written with this status, or the sink failed within it
 abbrev pub TextPut : Status → (text : List ℕ) (w w' : Writing) (end : Status) → Type 0
@@ -48,17 +48,17 @@ pub record GivesUp (r r' : Reading) (w w' : Writing) (m : Memory) (end : Status)
   pub free : HasAllFree m
 
 -- the trace was run, and its last run stands
-abbrev pub Played : Shape → Run → (r r' : Reading) (w w' : Writing) → Memory → (end : Status) → Type 0
-Played shape run r r' w w' m end = (now : Run) × Leaves shape now m × Ran shape run now r r' w w' end
+abbrev pub Played : Rules → Run → (r r' : Reading) (w w' : Writing) → Memory → (end : Status) → Type 0
+Played root run r r' w w' m end = (now : Run) × Leaves root now m × Ran root run now r r' w w' end
 
 -- by what opening the root gives
-abbrev pub Opens : Shape → Opening → (r r' : Reading) (w w' : Writing) → Memory → (end : Status) → Type 0
-Opens shape (Err node) r r' w w' m end = SaysOnly OpeningRefused (refused_text node) r r' w w' m end
-Opens shape (Ok o) r r' w w' m end = Played shape (run_of o.state o.cells []) r r' w w' m end
+abbrev pub Opens : Rules → Opening → (r r' : Reading) (w w' : Writing) → Memory → (end : Status) → Type 0
+Opens root (Err node) r r' w w' m end = SaysOnly OpeningRefused (refused_text node) r r' w w' m end
+Opens root (Ok o) r r' w w' m end = Played root (run_of o.state o.cells []) r r' w w' m end
 
--- a trace was run on a root with this shape, by what opening it gives, or there was no memory for it
-abbrev pub PlaysOn : Shape → Opening → (r r' : Reading) (w w' : Writing) → Memory → (end : Status) → Type 0
-PlaysOn shape opening r r' w w' m end = GivesUp r r' w w' m end ⊎ Opens shape opening r r' w w' m end
+-- a trace was run on a root with these rules, by what opening it gives, or there was no memory for it
+abbrev pub PlaysOn : Rules → Opening → (r r' : Reading) (w w' : Writing) → Memory → (end : Status) → Type 0
+PlaysOn root opening r r' w w' m end = GivesUp r r' w w' m end ⊎ Opens root opening r r' w w' m end
 
 -- one text was written so, or there was no memory for it
 abbrev pub MaySay : Status → (text : List ℕ) → (r r' : Reading) (w w' : Writing) → Memory → (end : Status) → Type 0
@@ -74,7 +74,7 @@ Runs (Replays e cells) r r' w w' m end = PlaysOn (root_of e) (opening_of e cells
 -- the status and the text are those of what is told, and the Space is left as that says
 abbrev pub IsTold : Telling → (w w' : Writing) → Memory → (end : Status) → Type 0
 IsTold (Only status text) w w' m end = (end ≡ status) × Appends w.holds w'.holds text × HasAllFree m
-IsTold (Plays shape all) w w' m end = (end ≡ all.status) × Appends w.holds w'.holds (text_of all.pieces) × Leaves shape all.run m
+IsTold (Plays root all) w w' m end = (end ≡ all.status) × Appends w.holds w'.holds (text_of all.pieces) × Leaves root all.run m
 
 -- a run ends so before it reads
 abbrev pub IsEarly : Status → Type 0

@@ -1,7 +1,7 @@
 -- Telling: what is told, by what the words ask for and the input.
 use Rattle.std.specs.Prelude.{ℕ, List, [], ◌∷◌, ◌++◌, Ok, Err, codes}
 use Rattle.std.specs.Fmt.{decimal}
-use Rattle.layer_rules.specs.Shape.{Shape}
+use Rattle.layer_rules.specs.Rules.{Rules}
 use Rattle.layer_rules.specs.After.{Opening}
 use Rattle.heap_core.specs.Performing.{run_of}
 use Rattle.expr_reader.specs.declared.fault.ExprFault.{ExprFault}
@@ -12,10 +12,10 @@ use Rattle.play_core.specs.Asked.{Asked, Nothing, Refused, Checks, Replays, root
 use Rattle.play_core.specs.CheckText.{check_text}
 use Rattle.play_core.specs.Told.{Told, told}
 
--- One text with its status, and nothing is read. Or what a trace is told, on a heap whose root has this shape.
+-- One text with its status, and nothing is read. Or what a trace is told, on a heap whose root has these rules.
 pub data Telling : Type 0 where
   Only : (status : Status) (text : List ℕ) → Telling
-  Plays : (shape : Shape) (all : Told) → Telling
+  Plays : (root : Rules) (all : Told) → Telling
 
 abbrev pub usage_text : List ℕ
 usage_text = codes "usage: heaplay check EXPR\n       heaplay replay EXPR CELLS\n"
@@ -37,9 +37,9 @@ unfoldable pub refused_text : (node : ℕ) → List ℕ
 refused_text node = codes "opening refused at node " ++ decimal node ++ 10 ∷ []
 
 -- by what opening the root gives
-abbrev pub told_opening : Shape → Opening → (input : List ℕ) → Telling
-told_opening shape (Err node) input = Only OpeningRefused (refused_text node)
-told_opening shape (Ok o) input = Plays shape (told shape (run_of o.state o.cells []) input)
+abbrev pub told_opening : Rules → Opening → (input : List ℕ) → Telling
+told_opening root (Err node) input = Only OpeningRefused (refused_text node)
+told_opening root (Ok o) input = Plays root (told root (run_of o.state o.cells []) input)
 
 -- what is told
 abbrev pub telling : Asked → (input : List ℕ) → Telling
@@ -51,4 +51,4 @@ telling (Replays e cells) input = told_opening (root_of e) (opening_of e cells) 
 -- its status
 abbrev pub status_of : Telling → Status
 status_of (Only status text) = status
-status_of (Plays shape all) = all.status
+status_of (Plays root all) = all.status

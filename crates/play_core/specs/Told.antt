@@ -2,7 +2,7 @@
 use Rattle.std.specs.Prelude.{◌≡◌, ℕ, ◌+◌, ◌<◌, List, [], ◌∷◌, ◌++◌, length, map, take, Option, Some, None}
 use Rattle.std.specs.List.{flat_map}
 use Rattle.std.specs.Option.{option_map}
-use Rattle.layer_rules.specs.Shape.{Shape}
+use Rattle.layer_rules.specs.Rules.{Rules}
 use Rattle.heap_core.specs.declared.Call.{Call}
 use Rattle.heap_core.specs.declared.Answer.{Answer}
 use Rattle.heap_core.specs.Performing.{Run}
@@ -45,8 +45,8 @@ pub record Told : Type 0 where
   pub run : Run
 
 -- what is told at the end of an input: the report
-abbrev pub reported : Shape → Run → Told
-reported shape run = record { status = Good; pieces = map (line_piece run) (report_of shape run); run = run }
+abbrev pub reported : Rules → Run → Told
+reported root run = record { status = Good; pieces = map (line_piece run) (report_of root run); run = run }
 
 -- the same with pieces before it
 abbrev pub after : List Piece → Told → Told
@@ -62,14 +62,14 @@ told_on number run (Answers call answer next) rest = after (answer_piece call an
 told_on number run (Stops fault) rest = stopped number fault run
 
 -- what lines are told, of which the first has this number, and so many bytes before it
-abbrev pub told_from : Shape → (number before : ℕ) → Run → (lines : List (List ℕ)) → Told
-told_from shape number before run [] = reported shape run
-told_from shape number before run (line ∷ lines) =
-    told_on number run (outcome shape before run line) (λ next. told_from shape (number + 1) (before + length line) next lines)
+abbrev pub told_from : Rules → (number before : ℕ) → Run → (lines : List (List ℕ)) → Told
+told_from root number before run [] = reported root run
+told_from root number before run (line ∷ lines) =
+    told_on number run (outcome root before run line) (λ next. told_from root (number + 1) (before + length line) next lines)
 
 -- what an input is told, from this run
-abbrev pub told : Shape → Run → (input : List ℕ) → Told
-told shape run input = told_from shape 1 0 run (lines_of input)
+abbrev pub told : Rules → Run → (input : List ℕ) → Told
+told root run input = told_from root 1 0 run (lines_of input)
 
 -- the answers from a line on, by what the line does
 abbrev pub answers_on : Outcome → (rest : Run → Option (List Piece × Run)) → Option (List Piece × Run)
@@ -77,10 +77,10 @@ answers_on (Answers call answer next) rest = option_map (λ r. (answer_piece cal
 answers_on (Stops fault) rest = None
 
 -- the answers to lines and the run after them, where none is in fault
-abbrev pub answers_from : Shape → (before : ℕ) → Run → (lines : List (List ℕ)) → Option (List Piece × Run)
-answers_from shape before run [] = Some ([], run)
-answers_from shape before run (line ∷ lines) =
-    answers_on (outcome shape before run line) (λ next. answers_from shape (before + length line) next lines)
+abbrev pub answers_from : Rules → (before : ℕ) → Run → (lines : List (List ℕ)) → Option (List Piece × Run)
+answers_from root before run [] = Some ([], run)
+answers_from root before run (line ∷ lines) =
+    answers_on (outcome root before run line) (λ next. answers_from root (before + length line) next lines)
 
 -- The text breaks off within a piece, and this run stands when that piece is put.
 pub record BreaksOff (t : Told) (text : List ℕ) (run : Run) : Type 0 where

@@ -10,7 +10,7 @@ use Rattle.play_core.specs.Telling.{Telling, Only, Plays, status_of, telling}
 -- the whole text
 abbrev pub telling_text : Telling → List ℕ
 telling_text (Only status text) = text
-telling_text (Plays shape all) = text_of all.pieces
+telling_text (Plays root all) = text_of all.pieces
 
 -- lines, each with its newline
 abbrev pub lines : List (List ℕ) → List ℕ

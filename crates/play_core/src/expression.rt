@@ -4,11 +4,11 @@ ghost use Rattle.space_core.specs.Memory.{no_memory};
 ghost use Rattle.expr_reader.specs.Answers.{IsAccepted};
 ghost use Rattle.expr_reader.specs.Canonical.{canonical};
 ghost use Rattle.expr_reader.specs.Trees.{tree_of};
-ghost use Rattle.play_core.specs.CheckText.{check_text, offered, offers_text, shape_text};
+ghost use Rattle.play_core.specs.CheckText.{check_text, offered, offers_text, rules_text};
 ghost use Rattle.play_core.specs.Runs.{HasAllFree};
 ghost use Rattle.play_core.specs.Telling.{cause_line, expression_text};
 
-use expr_reader::{Expr, ExprFault, build, print};
+use expr_reader::{Expr, ExprFault, accepted_are_compositions, build, print};
 use layer_core::{Layer, Offers};
 use space_core::{NoMemory, Space};
 use std::alloc::{AllocError, Global};
@@ -67,9 +67,9 @@ fn put_offers(text: &mut String, offers: Offers) -> Result<(), AllocError>
 }
 
 // Puts the nodes of a root, its alignment, and what it offers.
-#[tactic(auto, unfolding(crate::specs::CheckText::shape_text))]
-fn put_shape<L: Layer>(text: &mut String, root: &L) -> Result<(), AllocError>
-    ensures { OnOk result (string_bytes text.new ≡ string_bytes text.old ++ shape_text (L.tree root.now).shape) }
+#[tactic(auto, unfolding(crate::specs::CheckText::rules_text))]
+fn put_rules<L: Layer>(text: &mut String, root: &L) -> Result<(), AllocError>
+    ensures { OnOk result (string_bytes text.new ≡ string_bytes text.old ++ rules_text (L.model root.now).rules) }
 {
     write!(
         text,
@@ -83,11 +83,11 @@ fn put_shape<L: Layer>(text: &mut String, root: &L) -> Result<(), AllocError>
 
 // What stands in an expression that this root was built of.
 fn text_of<L: Layer>(alloc: Global, expr: &Expr, root: L) -> Result<String, NoMemory>
-    ensures { IfOk result (λ text. string_bytes text ≡ canonical (tree_of expr.now) ++ (codes "\n" ++ shape_text (L.tree root).shape)) }
+    ensures { IfOk result (λ text. string_bytes text ≡ canonical (tree_of expr.now) ++ (codes "\n" ++ rules_text (L.model root).rules)) }
 {
     let mut text = print(alloc, expr)?;
     text.push_str("\n")?;
-    put_shape(&mut text, &root)?;
+    put_rules(&mut text, &root)?;
     Ok(text)
 }
 
@@ -98,6 +98,7 @@ pub(crate) fn check_text(alloc: Global, expr: &Expr, space: &mut Space) -> Resul
     ensures text { IfOk result (λ text. string_bytes text ≡ check_text (tree_of expr.now)) }
     ensures free { HasAllFree space.new }
 {
+    accepted_are_compositions();
     let root = build(alloc, expr, space)?;
     text_of(alloc, expr, root)
 }

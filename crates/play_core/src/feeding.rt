@@ -2,7 +2,7 @@
 ghost use Rattle.std.specs.Prelude.{◌≡◌, Ok};
 ghost use Rattle.trace_text.specs.Grammar.{line_call};
 ghost use Rattle.play_core.specs.Devices.{writing};
-ghost use Rattle.play_core.specs.Ends.{run_at, shape_at, HeldAt, ByteStepped, Stepped};
+ghost use Rattle.play_core.specs.Ends.{run_at, rules_at, HeldAt, ByteStepped, Stepped};
 ghost use Rattle.play_core.specs.Outcome.{read_outcome};
 ghost use Rattle.play_core.specs.Place.{fed, fed_place, place_of};
 
@@ -23,12 +23,12 @@ fn perform_call<L: Layer, K: Sink>(
     number: u64,
     call: &Call,
 ) -> Step
-    requires { HeldAt L.tree heap.old space.old }
-    ensures stepped { Stepped (read_outcome (shape_at L.tree heap.old) (run_at L.tree heap.old space.old) (Ok call.now)) number
-        (run_at L.tree heap.old space.old) (run_at L.tree heap.new space.new)
+    requires { HeldAt L.model heap.old space.old }
+    ensures stepped { Stepped (read_outcome (rules_at L.model heap.old) (run_at L.model heap.old space.old) (Ok call.now)) number
+        (run_at L.model heap.old space.old) (run_at L.model heap.new space.new)
         (writing K.holds K.faults sink.old) (writing K.holds K.faults sink.new) result }
-    ensures held { HeldAt L.tree heap.new space.new }
-    ensures shape { shape_at L.tree heap.new ≡ shape_at L.tree heap.old }
+    ensures held { HeldAt L.model heap.new space.new }
+    ensures rules { rules_at L.model heap.new ≡ rules_at L.model heap.old }
 {
     match heap.perform(space, call) {
         Ok(answer) => {
@@ -49,12 +49,12 @@ pub(crate) fn perform_line<L: Layer, K: Sink>(
     number: u64,
     line: &[u8],
 ) -> Step
-    requires { HeldAt L.tree heap.old space.old }
-    ensures stepped { Stepped (read_outcome (shape_at L.tree heap.old) (run_at L.tree heap.old space.old) (line_call line.now)) number
-        (run_at L.tree heap.old space.old) (run_at L.tree heap.new space.new)
+    requires { HeldAt L.model heap.old space.old }
+    ensures stepped { Stepped (read_outcome (rules_at L.model heap.old) (run_at L.model heap.old space.old) (line_call line.now)) number
+        (run_at L.model heap.old space.old) (run_at L.model heap.new space.new)
         (writing K.holds K.faults sink.old) (writing K.holds K.faults sink.new) result }
-    ensures held { HeldAt L.tree heap.new space.new }
-    ensures shape { shape_at L.tree heap.new ≡ shape_at L.tree heap.old }
+    ensures held { HeldAt L.model heap.new space.new }
+    ensures rules { rules_at L.model heap.new ≡ rules_at L.model heap.old }
 {
     match read_line(line) {
         Ok(call) => perform_call(heap, space, sink, number, &call),
@@ -71,14 +71,14 @@ pub(crate) fn feed<L: Layer, K: Sink>(
     reader: &mut Reader,
     byte: u8,
 ) -> Step
-    requires { HeldAt L.tree heap.old space.old }
-    ensures stepped { ByteStepped (fed (shape_at L.tree heap.old) (place_of reader.old (run_at L.tree heap.old space.old)) byte) reader.old.number
-        (run_at L.tree heap.old space.old) (run_at L.tree heap.new space.new)
+    requires { HeldAt L.model heap.old space.old }
+    ensures stepped { ByteStepped (fed (rules_at L.model heap.old) (place_of reader.old (run_at L.model heap.old space.old)) byte) reader.old.number
+        (run_at L.model heap.old space.old) (run_at L.model heap.new space.new)
         (writing K.holds K.faults sink.old) (writing K.holds K.faults sink.new) result }
-    ensures place { result ≡ Step.Goes → place_of reader.new (run_at L.tree heap.new space.new)
-        ≡ fed_place (place_of reader.old (run_at L.tree heap.old space.old)) byte (run_at L.tree heap.new space.new) }
-    ensures held { HeldAt L.tree heap.new space.new }
-    ensures shape { shape_at L.tree heap.new ≡ shape_at L.tree heap.old }
+    ensures place { result ≡ Step.Goes → place_of reader.new (run_at L.model heap.new space.new)
+        ≡ fed_place (place_of reader.old (run_at L.model heap.old space.old)) byte (run_at L.model heap.new space.new) }
+    ensures held { HeldAt L.model heap.new space.new }
+    ensures rules { rules_at L.model heap.new ≡ rules_at L.model heap.old }
 {
     if reader.before + reader.begun.len() >= MOST_INPUT {
         return put_fault(sink, reader.number, &TraceFault::TooMuchInput, space);

@@ -3,18 +3,30 @@ ghost use Rattle.play_core.specs.Asked.{AllWordsAskOnce};
 ghost use Rattle.play_core.specs.WholeRuns.{WholeRuns};
 ghost use Rattle.play_core.specs.WorkedRows.{CellsAlone, CheckAlignment, CheckCells, CheckRegion, CheckTooLarge, EmptyTrace, ExpressionFault, FirstTrace, FullRegion, NoBytes, NoCells, OpeningOfTheInner, OpeningOfTheOuter, OpeningTooLong, RegionOverRegion};
 
+use expr_reader::{accepted_are_compositions, each_text_is_read_once};
+use heap_core::laws::calls_are_moves;
+use heap_core::runs::{answers_are_exact, live_blocks_are_apart, runs_go_on};
+
 /// All words ask for one thing, and for no other: the usage, the fault of an expression, what stands in it, or a run
 /// of a trace.
 pub fn all_words_ask_once()
     ensures { AllWordsAskOnce }
-{}
+{
+    each_text_is_read_once();
+}
 
 /// In every run that words and an input are told, each answer is a step of the machine of blocks, null comes exactly
 /// where 0 bytes are asked or the root refuses, and nothing else changes a name, a block or a byte. At every piece of
 /// the text the live blocks lie in the area, at multiples of the alignment, share no byte, and have zeros.
 pub fn whole_runs()
     ensures { WholeRuns }
-{}
+{
+    accepted_are_compositions();
+    calls_are_moves();
+    runs_go_on();
+    live_blocks_are_apart();
+    answers_are_exact();
+}
 
 /// What some words and inputs are told, each row by computation.
 pub fn worked_rows()
@@ -33,4 +45,6 @@ pub fn worked_rows()
     ensures check_cells { CheckCells }
     ensures check_too_large { CheckTooLarge }
     ensures check_alignment { CheckAlignment }
-{}
+{
+    each_text_is_read_once();
+}

@@ -2,7 +2,6 @@
 ghost use Rattle.std.specs.Prelude.{◌≡◌, ◌≤◌, List, ℕ, false};
 ghost use Rattle.space_core.specs.Memory.{most_cells, no_memory};
 ghost use Rattle.layer_rules.specs.Layering.{Stands, IsShut};
-ghost use Rattle.layer_rules.specs.Serving.{open_tree};
 ghost use Rattle.expr_reader.specs.Answers.{IsAccepted};
 ghost use Rattle.expr_reader.specs.Trees.{tree_of};
 ghost use Rattle.play_core.specs.Asked.{Replays};
@@ -13,7 +12,7 @@ ghost use Rattle.play_core.specs.Telling.{refused_text};
 use crate::Status;
 use crate::putting::put_only;
 use crate::replaying::replay;
-use expr_reader::{Expr, build};
+use expr_reader::{Expr, accepted_are_compositions, build};
 use heap_core::{Heap, MakeFault};
 use layer_core::Layer;
 use source_sink::{Sink, Source};
@@ -42,12 +41,12 @@ fn play_on<L: Layer, S: Source, K: Sink>(
     space: &mut Space,
 ) -> Status
     requires opened { S.finished source.old ≡ false }
-    requires stands { Stands (L.tree root) space.old }
-    requires shut { IsShut (L.tree root) }
+    requires stands { Stands (L.model root) space.old }
+    requires shut { IsShut (L.model root) }
     requires free { HasAllFree space.old }
     ensures early { IsEarly result → source.new ≡ source.old }
     ensures no_memory { result ≡ Status.NoMemory → sink.new ≡ sink.old }
-    ensures plays { PlaysOn (L.tree root).shape (open_tree (L.tree root).shape 0 space.old.cells)
+    ensures plays { PlaysOn (L.model root).rules ((L.model root).rules.set_up 0 space.old.cells)
         (reading S.left S.faults S.finished source.old) (reading S.left S.faults S.finished source.new)
         (writing K.holds K.faults sink.old) (writing K.holds K.faults sink.new) space.new result }
 {
@@ -86,6 +85,7 @@ pub(crate) fn play<S: Source, K: Sink>(
         (reading S.left S.faults S.finished source.old) (reading S.left S.faults S.finished source.new)
         (writing K.holds K.faults sink.old) (writing K.holds K.faults sink.new) space.new result }
 {
+    accepted_are_compositions();
     let Ok(()) = space.set_up(alloc, cells) else {
         return Status::NoMemory;
     };

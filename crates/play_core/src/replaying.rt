@@ -1,7 +1,7 @@
 // A whole trace.
 ghost use Rattle.std.specs.Prelude.{◌≡◌, ◌≤◌, [], length, take, false};
 ghost use Rattle.play_core.specs.Devices.{reading, writing};
-ghost use Rattle.play_core.specs.Ends.{run_at, shape_at, HeldAt, Fed, Lasts, Finishes};
+ghost use Rattle.play_core.specs.Ends.{run_at, rules_at, HeldAt, Fed, Lasts, Finishes};
 ghost use Rattle.play_core.specs.Lines.{IsOpen};
 ghost use Rattle.play_core.specs.Place.{place_of, told_at};
 ghost use Rattle.play_core.specs.Ran.{Ran};
@@ -34,12 +34,12 @@ fn feed_all<L: Layer, K: Sink>(
 ) -> Step
     requires opened { IsOpen reader.old.begun.items }
     requires short { length reader.old.begun.items ≤ 256 }
-    requires held { HeldAt L.tree heap.old space.old }
-    ensures fed { Fed (shape_at L.tree heap.old) (place_of reader.old (run_at L.tree heap.old space.old)) bytes.now
-        (place_of reader.new (run_at L.tree heap.new space.new))
+    requires held { HeldAt L.model heap.old space.old }
+    ensures fed { Fed (rules_at L.model heap.old) (place_of reader.old (run_at L.model heap.old space.old)) bytes.now
+        (place_of reader.new (run_at L.model heap.new space.new))
         (writing K.holds K.faults sink.old) (writing K.holds K.faults sink.new) result }
-    ensures held { HeldAt L.tree heap.new space.new }
-    ensures shape { shape_at L.tree heap.new ≡ shape_at L.tree heap.old }
+    ensures held { HeldAt L.model heap.new space.new }
+    ensures rules { rules_at L.model heap.new ≡ rules_at L.model heap.old }
 {
     for byte in bytes {
         match feed(heap, space, sink, reader, *byte) {
@@ -59,11 +59,11 @@ fn last_line<L: Layer, K: Sink>(
 ) -> Step
     requires opened { IsOpen reader.now.begun.items }
     requires short { length reader.now.begun.items ≤ 256 }
-    requires held { HeldAt L.tree heap.old space.old }
-    ensures lasts { Lasts (shape_at L.tree heap.old) (told_at (shape_at L.tree heap.old) (place_of reader.now (run_at L.tree heap.old space.old)) [])
-        (run_at L.tree heap.new space.new) (writing K.holds K.faults sink.old) (writing K.holds K.faults sink.new) result }
-    ensures held { HeldAt L.tree heap.new space.new }
-    ensures shape { shape_at L.tree heap.new ≡ shape_at L.tree heap.old }
+    requires held { HeldAt L.model heap.old space.old }
+    ensures lasts { Lasts (rules_at L.model heap.old) (told_at (rules_at L.model heap.old) (place_of reader.now (run_at L.model heap.old space.old)) [])
+        (run_at L.model heap.new space.new) (writing K.holds K.faults sink.old) (writing K.holds K.faults sink.new) result }
+    ensures held { HeldAt L.model heap.new space.new }
+    ensures rules { rules_at L.model heap.new ≡ rules_at L.model heap.old }
 {
     if reader.begun.is_empty() {
         return Step::Goes;
@@ -73,8 +73,8 @@ fn last_line<L: Layer, K: Sink>(
 
 // Puts the report at the end of a trace.
 fn finish_report<L: Layer, K: Sink>(heap: &Heap<L>, space: &Space, sink: &mut K) -> Status
-    requires { HeldAt L.tree heap.now space.now }
-    ensures { Finishes (reported (shape_at L.tree heap.now) (run_at L.tree heap.now space.now)) (run_at L.tree heap.now space.now)
+    requires { HeldAt L.model heap.now space.now }
+    ensures { Finishes (reported (rules_at L.model heap.now) (run_at L.model heap.now space.now)) (run_at L.model heap.now space.now)
         (writing K.holds K.faults sink.old) (writing K.holds K.faults sink.new) result }
 {
     match put_report(heap, space, sink) {
@@ -92,11 +92,11 @@ fn finish<L: Layer, K: Sink>(
 ) -> Status
     requires opened { IsOpen reader.now.begun.items }
     requires short { length reader.now.begun.items ≤ 256 }
-    requires held { HeldAt L.tree heap.old space.old }
-    ensures finishes { Finishes (told_at (shape_at L.tree heap.old) (place_of reader.now (run_at L.tree heap.old space.old)) [])
-        (run_at L.tree heap.new space.new) (writing K.holds K.faults sink.old) (writing K.holds K.faults sink.new) result }
-    ensures held { HeldAt L.tree heap.new space.new }
-    ensures shape { shape_at L.tree heap.new ≡ shape_at L.tree heap.old }
+    requires held { HeldAt L.model heap.old space.old }
+    ensures finishes { Finishes (told_at (rules_at L.model heap.old) (place_of reader.now (run_at L.model heap.old space.old)) [])
+        (run_at L.model heap.new space.new) (writing K.holds K.faults sink.old) (writing K.holds K.faults sink.new) result }
+    ensures held { HeldAt L.model heap.new space.new }
+    ensures rules { rules_at L.model heap.new ≡ rules_at L.model heap.old }
 {
     match last_line(heap, space, sink, reader) {
         Step::Goes => finish_report(heap, space, sink),
@@ -113,12 +113,12 @@ pub(crate) fn replay<L: Layer, S: Source, K: Sink>(
     sink: &mut K,
 ) -> Status
     requires opened { S.finished source.old ≡ false }
-    requires held { HeldAt L.tree heap.old space.old }
-    ensures ran { Ran (shape_at L.tree heap.old) (run_at L.tree heap.old space.old) (run_at L.tree heap.new space.new)
+    requires held { HeldAt L.model heap.old space.old }
+    ensures ran { Ran (rules_at L.model heap.old) (run_at L.model heap.old space.old) (run_at L.model heap.new space.new)
         (reading S.left S.faults S.finished source.old) (reading S.left S.faults S.finished source.new)
         (writing K.holds K.faults sink.old) (writing K.holds K.faults sink.new) result }
-    ensures held { HeldAt L.tree heap.new space.new }
-    ensures shape { shape_at L.tree heap.new ≡ shape_at L.tree heap.old }
+    ensures held { HeldAt L.model heap.new space.new }
+    ensures rules { rules_at L.model heap.new ≡ rules_at L.model heap.old }
 {
     let mut reader = Reader::new();
     let mut room = [0u8; 4096];

@@ -1,14 +1,14 @@
 // The report at the end of a trace: the totals, and then what each node says.
 ghost use Rattle.std.specs.Prelude.{◌≡◌, ◌≤◌, [], length};
 ghost use Rattle.std.specs.Option.{option_map};
-ghost use Rattle.layer_rules.specs.Facts.{facts};
 ghost use Rattle.layer_rules.specs.Layering.{Stands, state_of};
 ghost use Rattle.play_core.specs.Devices.{writing};
-ghost use Rattle.play_core.specs.Ends.{run_at, shape_at, HeldAt, LinesPut};
+ghost use Rattle.play_core.specs.Ends.{run_at, rules_at, HeldAt, LinesPut};
 ghost use Rattle.play_core.specs.ReportText.{and_lines, cells_line, fact_line, node_lines, region_line, report_of, total_line, total_lines};
 
 use crate::putting::{put_all, put_lines};
 use heap_core::Heap;
+use heap_core::laws::blocks_are_measured;
 use layer_core::{Fact, Layer};
 use source_sink::{Failed, Sink};
 use space_core::Space;
@@ -84,9 +84,9 @@ fn put_node<K: Sink>(sink: &mut K, node: u32, fact: Fact, space: &Space) -> Resu
 
 // Puts the lines of all nodes.
 fn put_nodes<L: Layer, K: Sink>(root: &L, space: &Space, sink: &mut K) -> Result<(), Failed>
-    requires { Stands (L.tree root.now) space.now }
+    requires { Stands (L.model root.now) space.now }
     ensures { LinesPut (writing K.holds K.faults sink.old) (writing K.holds K.faults sink.new)
-        (node_lines 0 (facts (L.tree root.now).shape (state_of (L.tree root.now) space.now) space.now.cells)) result }
+        (node_lines 0 ((L.model root.now).rules.facts (state_of (L.model root.now) space.now) space.now.cells)) result }
 {
     let count = root.nodes();
     for node in 0..count {
@@ -97,10 +97,11 @@ fn put_nodes<L: Layer, K: Sink>(root: &L, space: &Space, sink: &mut K) -> Result
 
 // Puts the totals.
 fn put_totals<L: Layer, K: Sink>(heap: &Heap<L>, space: &Space, sink: &mut K) -> Result<(), Failed>
-    requires { HeldAt L.tree heap.now space.now }
+    requires { HeldAt L.model heap.now space.now }
     ensures { LinesPut (writing K.holds K.faults sink.old) (writing K.holds K.faults sink.new)
-        (total_lines (shape_at L.tree heap.now) (run_at L.tree heap.now space.now)) result }
+        (total_lines (rules_at L.model heap.now) (run_at L.model heap.now space.now)) result }
 {
+    blocks_are_measured();
     let asked = heap.asked();
     let extent = heap.extent();
     let lines = [
@@ -118,9 +119,9 @@ pub(crate) fn put_report<L: Layer, K: Sink>(
     space: &Space,
     sink: &mut K,
 ) -> Result<(), Failed>
-    requires { HeldAt L.tree heap.now space.now }
+    requires { HeldAt L.model heap.now space.now }
     ensures { LinesPut (writing K.holds K.faults sink.old) (writing K.holds K.faults sink.new)
-        (report_of (shape_at L.tree heap.now) (run_at L.tree heap.now space.now)) result }
+        (report_of (rules_at L.model heap.now) (run_at L.model heap.now space.now)) result }
 {
     put_totals(heap, space, sink)?;
     put_nodes(heap.root(), space, sink)

@@ -12,10 +12,11 @@ ghost use Rattle.play_core.specs.WholeRuns.{TellsBlockRun};
 
 use crate::Status;
 use crate::expression::{check_text, expression_line};
+use crate::laws::whole_runs;
 use crate::playing::play;
 use crate::putting::put_only;
 use crate::words::Command;
-use expr_reader::{ExprFault, read};
+use expr_reader::{ExprFault, each_text_is_read_once, read};
 use source_sink::{Sink, Source};
 use space_core::Space;
 use std::alloc::Global;
@@ -126,5 +127,7 @@ pub fn run<S: Source, K: Sink>(
         (reading S.left S.faults S.finished source.old) (reading S.left S.faults S.finished source.new)
         (writing K.holds K.faults sink.old) (writing K.holds K.faults sink.new) space.new result }
 {
+    whole_runs();
+    each_text_is_read_once();
     obey(alloc, words, source, sink, space)
 }

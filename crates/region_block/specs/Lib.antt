@@ -1,2 +1,4 @@
-pub mod RegionShape
-pub mod RegionTree
+pub mod RegionMade
+pub mod RegionProper
+pub mod RegionModel
+pub mod Trials

@@ -1,7 +1,7 @@
 // The region itself.
-ghost use Rattle.std.specs.Prelude.{◌≡◌, true, is_some};
-ghost use Rattle.layer_rules.specs.Shape.{region};
-ghost use Rattle.layer_rules.specs.Proper.{is_tree};
+ghost use Rattle.std.specs.Prelude.{◌≡◌, is_some};
+ghost use Rattle.region_rules.specs.RegionRules.{region_rules};
+ghost use Rattle.region_block.specs.RegionProper.{IsProper};
 ghost use Rattle.layer_rules.specs.Fields.{are_open};
 
 use crate::parent_need;
@@ -26,22 +26,22 @@ pub struct Region<P: Layer> {
     align: u64,
     bump: Option<Bump>,
     parent: P,
-    ghost proper: { is_tree (region size align (P.tree parent).shape) ≡ true },
-    ghost together: { are_open (P.tree parent).fields ≡ is_some bump },
+    ghost proper: { IsProper size align (P.model parent).rules },
+    ghost together: { are_open (P.model parent).fields ≡ is_some bump },
 }
 
 impl<P: Layer> Region<P> {
-    ghost use Rattle.region_block.specs.RegionTree.{region_of};
+    ghost use Rattle.region_block.specs.RegionModel.{region_of};
     ghost use Rattle.layer_rules.specs.Layering.{IsShut};
 
     /// A closed region over a closed parent. Its chunk will have at least `size` bytes, 1 to 2^30,
     /// and its blocks begin at multiples of `align`, a power of two from 1 to 4,096 that is at
     /// most the parent's alignment.
     pub fn new(size: u64, align: u64, parent: P) -> Region<P>
-        requires shut { IsShut (P.tree parent) }
-        requires proper { is_tree (region size align (P.tree parent).shape) ≡ true }
-        ensures shape { (region_of P.tree result).shape ≡ region size align (P.tree parent).shape }
-        ensures shut { IsShut (region_of P.tree result) }
+        requires shut { IsShut (P.model parent) }
+        requires proper { IsProper size align (P.model parent).rules }
+        ensures rules { (region_of P.model result).rules ≡ region_rules size align (P.model parent).rules }
+        ensures shut { IsShut (region_of P.model result) }
     {
         Region {
             size,
@@ -53,10 +53,10 @@ impl<P: Layer> Region<P> {
 }
 
 impl<P: Layer> Layer for Region<P> {
-    ghost use Rattle.region_block.specs.RegionTree.{region_of};
-    ghost use Rattle.region_block.specs.RegionShape.{region_shaped};
+    ghost use Rattle.region_block.specs.RegionModel.{region_of};
+    ghost use Rattle.region_block.specs.RegionMade.{region_made};
 
-    ghost tree = { region_of P.tree };
+    ghost model = { region_of P.model };
 
     fn nodes(&self) -> u32 {
         self.parent.nodes() + 1
@@ -174,5 +174,5 @@ impl<P: Layer> Layer for Region<P> {
         }
     }
 
-    ghost shaped = { λ l. region_shaped P.shaped l };
+    ghost made = { λ l. region_made P.made l };
 }

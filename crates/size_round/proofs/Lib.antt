@@ -1,4 +1,1 @@
-pub mod KindLaws
 pub mod NextPower
-pub mod PowerLaws
-pub mod UpLeast

@@ -1,2 +1,5 @@
+pub mod KindLaws
+pub mod PowerLaws
 pub mod SizeMeanings
 pub mod Sizes
+pub mod UpLeast

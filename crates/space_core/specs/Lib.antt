@@ -1,3 +1,4 @@
+pub mod CellRuns
 pub mod Cells
 pub mod Held
 pub mod Leaf

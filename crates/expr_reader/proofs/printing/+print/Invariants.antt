@@ -1,6 +1,6 @@
 use Rattle.std.proofs.Common.{◌≡◌, ◌++◌, drop}
 use Rattle.std.specs.Prelude.{string_bytes}
-use Rattle.expr_reader.proofs.Printed.{parts_text}
+use Rattle.expr_reader.specs.Printing.{parts_text}
 use Rattle.expr_reader.proofs.printing.+print.Given as goal
 
 abbrev pub invariant-put_members-loop-part : goal.invariant-put_members-loop-part

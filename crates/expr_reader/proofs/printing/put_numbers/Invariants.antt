@@ -1,6 +1,6 @@
 use Rattle.std.proofs.Common.{◌≡◌, ◌++◌, drop}
 use Rattle.std.specs.Prelude.{string_bytes}
-use Rattle.expr_reader.specs.Canonical.{numerals}
+use Rattle.expr_reader.specs.Printing.{numerals}
 use Rattle.expr_reader.proofs.printing.put_numbers.Given as goal
 
 abbrev pub invariant-loop-number : goal.invariant-loop-number

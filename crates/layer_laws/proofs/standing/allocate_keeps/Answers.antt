@@ -1,4 +1,4 @@
-use Rattle.layer_laws.proofs.AfterCalls.{allocated-stands, allocated-gives, allocated-keeps_out, allocated-keeps_extents}
+use Rattle.layer_laws.specs.StandingLaws.{allocated-stands, allocated-gives, allocated-keeps_out, allocated-keeps_extents}
 use Rattle.layer_laws.proofs.standing.allocate_keeps.Goals as goal
 
 pub returns-clause-stands : goal.returns-clause-stands

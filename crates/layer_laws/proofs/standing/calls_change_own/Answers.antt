@@ -1,14 +1,12 @@
-use Rattle.layer_laws.proofs.AfterCalls.{allocated-changes_own, released-changes_own}
-use Rattle.layer_laws.proofs.Lives.{set_up-changes_own, torn-changes_own}
-use Rattle.layer_laws.proofs.Writes.{write-changes_own}
-use Rattle.layer_laws.proofs.Beside.{changes-in_turn, member-changes_own}
+use Rattle.layer_laws.specs.StandingLaws.{allocated-changes_own, deallocated-changes_own, set_up-changes_own, torn-changes_own, changes-in_turn}
+use Rattle.layer_laws.specs.Placement.{write-changes_own, member-changes_own}
 use Rattle.layer_laws.proofs.standing.calls_change_own.Goals as goal
 
 pub returns-clause-allocate : goal.returns-clause-allocate
 returns-clause-allocate c = allocated-changes_own
 
 pub returns-clause-deallocate : goal.returns-clause-deallocate
-returns-clause-deallocate c = released-changes_own
+returns-clause-deallocate c = deallocated-changes_own
 
 pub returns-clause-set_up : goal.returns-clause-set_up
 returns-clause-set_up c = set_up-changes_own

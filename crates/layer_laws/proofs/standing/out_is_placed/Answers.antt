@@ -1,7 +1,5 @@
-use Rattle.layer_laws.proofs.Writes.{apart-share_no_byte, out-placed, out-in_space}
-use Rattle.layer_laws.proofs.Routing.{out-routed}
-use Rattle.layer_laws.proofs.Aligned.{out-aligned}
-use Rattle.layer_laws.proofs.AfterCalls.{opens-as_fields, out-set_up}
+use Rattle.layer_laws.specs.StandingLaws.{out-in_space}
+use Rattle.layer_laws.specs.Placement.{out-placed, apart-share_no_byte, out-routed, out-aligned, open-as_fields, out-set_up}
 use Rattle.layer_laws.proofs.standing.out_is_placed.Goals as goal
 
 pub returns-clause-extent : goal.returns-clause-extent
@@ -10,6 +8,9 @@ returns-clause-extent c = out-placed
 pub returns-clause-space : goal.returns-clause-space
 returns-clause-space c = out-in_space
 
+pub returns-clause-apart : goal.returns-clause-apart
+returns-clause-apart c = apart-share_no_byte
+
 pub returns-clause-routed : goal.returns-clause-routed
 returns-clause-routed c = out-routed
 
@@ -17,10 +18,7 @@ pub returns-clause-aligned : goal.returns-clause-aligned
 returns-clause-aligned c = out-aligned
 
 pub returns-clause-open : goal.returns-clause-open
-returns-clause-open c = opens-as_fields
+returns-clause-open c = open-as_fields
 
 pub returns-clause-set_up : goal.returns-clause-set_up
 returns-clause-set_up c = out-set_up
-
-pub returns-clause-apart : goal.returns-clause-apart
-returns-clause-apart c = apart-share_no_byte

@@ -1,10 +1,9 @@
 use Rattle.std.proofs.Common.{arith, ap}
 use Rattle.space_core.specs.Memory.{Memory}
 use Rattle.expr_reader.specs.Trees.{tree_of}
-use Rattle.expr_reader.proofs.Builds.{accepted-has_shape}
 use Rattle.play_core.proofs.expression.check_text.Goals as goal
 
 pub build-requires-clause-leaves : goal.build-requires-clause-leaves
 build-requires-clause-leaves c =
-    let fits = accepted-has_shape c.requires.accepted.0 (tree_of c.args.expr.now) c.requires.accepted.1 0 in
+    let fits = c.accepted_are_compositions.ensures c.requires.accepted.0 (tree_of c.args.expr.now) c.requires.accepted.1 0 in
     omega (arith, ap (λ (m : Memory). m.leaves) c.requires.closed, fits.few)

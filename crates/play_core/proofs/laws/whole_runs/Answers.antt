@@ -2,4 +2,14 @@ use Rattle.play_core.proofs.RunsAlong.{whole_runs}
 use Rattle.play_core.proofs.laws.whole_runs.Goals as goal
 
 pub returns : goal.returns
-returns c = whole_runs
+returns c =
+    whole_runs
+    (record {
+      begins = c.runs_go_on.ensures.begins;
+      goes_on = c.runs_go_on.ensures.goes_on;
+      zeros = c.runs_go_on.ensures.zeros;
+      moves = c.calls_are_moves.ensures.moves;
+      blocks = c.live_blocks_are_apart.ensures.blocks;
+      null = c.answers_are_exact.ensures.null;
+      accepted = c.accepted_are_compositions.ensures;
+    })

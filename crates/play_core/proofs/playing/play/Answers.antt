@@ -1,13 +1,12 @@
 use Rattle.std.proofs.Common.{◌≡◌, arith, ap, inl, refl, ◌∙◌}
 use Rattle.space_core.specs.Memory.{Memory, fresh_memory}
 use Rattle.expr_reader.specs.Trees.{tree_of}
-use Rattle.expr_reader.proofs.Builds.{accepted-has_shape}
 use Rattle.play_core.proofs.RootLemmas.{root_free, root_stands}
 use Rattle.play_core.proofs.playing.play.Goals as goal
 
 pub build-requires-clause-leaves : goal.build-requires-clause-leaves
 build-requires-clause-leaves g c =
-    let fits = accepted-has_shape c.requires.accepted.0 (tree_of c.args.expr.now) c.requires.accepted.1 0 in
+    let fits = c.accepted_are_compositions.ensures c.requires.accepted.0 (tree_of c.args.expr.now) c.requires.accepted.1 0 in
     omega (arith, ap (λ (m : Memory). m.leaves) c.in-Ok.ensures.ok, ap (λ (m : Memory). m.leaves) c.requires.closed, fits.few)
 
 pub returns-in_default-build-clause-runs : goal.returns-in_default-build-clause-runs
@@ -17,9 +16,9 @@ returns-in_default-build-clause-runs g c =
 
 pub play_on-requires-clause-stands : goal.play_on-requires-clause-stands
 play_on-requires-clause-stands g c =
-    let fits = accepted-has_shape c.requires.accepted.0 (tree_of c.args.expr.now) c.requires.accepted.1 0 in
+    let fits = c.accepted_are_compositions.ensures c.requires.accepted.0 (tree_of c.args.expr.now) c.requires.accepted.1 0 in
     let fresh : c.set_up.new.self ≡ fresh_memory c.args.cells 0 = c.in-Ok.ensures.ok ∙ ap (λ (m : Memory). fresh_memory c.args.cells m.leaves) c.requires.closed in
-    root_stands _ (tree_of c.args.expr.now) c.set_up.new.self c.build.new.space c.args.cells c.in-Ok-build.ensures.shape c.in-Ok-build.ensures.shut fits c.in-Ok.ensures.memory fresh c.in-Ok-build.ensures.space
+    root_stands _ (tree_of c.args.expr.now) c.set_up.new.self c.build.new.space c.args.cells c.in-Ok-build.ensures.rules c.in-Ok-build.ensures.shut fits c.in-Ok.ensures.memory fresh c.in-Ok-build.ensures.space
 
 pub play_on-requires-clause-free : goal.play_on-requires-clause-free
 play_on-requires-clause-free g c =

@@ -9,5 +9,5 @@ returns-in-Ok-clause-plays g c =
     let r' = reading g.S.Source.left g.S.Source.faults g.S.Source.finished c.replay.new.source in
     let w = writing g.K.Sink.holds g.K.Sink.faults c.args.sink.now in
     let w' = writing g.K.Sink.holds g.K.Sink.faults c.replay.new.sink in
-    inr (opens_played _ _ _ _ _ r r' w w' c.replay.new.space c.replay.result c.in-Ok.ensures.shape c.in-Ok.ensures.opened
-    (left_by _ _ c.replay.new.space _ (c.replay.ensures.shape ∙ c.in-Ok.ensures.shape) c.replay.ensures.held) c.replay.ensures.ran)
+    inr (opens_played _ _ _ _ _ r r' w w' c.replay.new.space c.replay.result c.in-Ok.ensures.rules c.in-Ok.ensures.opened
+    (left_by _ _ c.replay.new.space _ (c.replay.ensures.rules ∙ c.in-Ok.ensures.rules) c.replay.ensures.held) c.replay.ensures.ran)

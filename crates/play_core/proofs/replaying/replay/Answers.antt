@@ -1,69 +1,69 @@
 use Rattle.std.proofs.Common.{arith, take, length, length-take-le, ap, ◌∙◌, refl}
-use Rattle.play_core.specs.declared.Step.TheVariants as step
-use Rattle.play_core.specs.Ends.{run_at, shape_at}
+use Rattle.play_core.specs.Ends.{run_at, rules_at}
 use Rattle.play_core.specs.Place.{place_of}
 use Rattle.play_core.proofs.Running.{going_at_start, going_more, going_stops, going_breaks, going_ends, fed_far, fed_along, finish_along, ended, not_ended, takes_nothing, falls}
+use Rattle.play_core.specs.declared.Step.TheVariants as step
 use Rattle.play_core.proofs.replaying.replay.Goals as goal
 
 pub taking-init : goal.taking-init
 taking-init g c = record {
   going = going_at_start _ c.new-reader.result _ _ _ c.new-reader.ensures.number c.new-reader.ensures.before c.new-reader.ensures.begun c.requires.opened;
   held = c.requires.held;
-  shape = refl;
+  rules = refl;
 }
 
 pub returns-then-count-eq0 : goal.returns-then-count-eq0
 returns-then-count-eq0 g c =
-    let p = place_of c.taking.reader (run_at g.L.Layer.tree c.taking.heap c.taking.space) in
-    let t = run_at g.L.Layer.tree c.finish.new.heap c.finish.new.space in
+    let p = place_of c.taking.reader (run_at g.L.Layer.model c.taking.heap c.taking.space) in
+    let t = run_at g.L.Layer.model c.finish.new.heap c.finish.new.space in
     record {
-      ran = going_ends (shape_at g.L.Layer.tree c.args.heap.now) _ t _ _ _ _ _ _ p c.finish.result c.taking.invariant.going
+      ran = going_ends (rules_at g.L.Layer.model c.args.heap.now) _ t _ _ _ _ _ _ p c.finish.result c.taking.invariant.going
           (takes_nothing _ _ c.take.new.into c.in-Ok.count c.in-Ok.ensures.taken c.if-count-eq0.true)
           (c.in-Ok.ensures.end c.if-count-eq0.true)
           c.in-Ok.ensures.counted
           (ended c.in-Ok.count _ c.in-Ok.ensures.finished c.if-count-eq0.true)
-          (finish_along (shape_at g.L.Layer.tree c.args.heap.now) (shape_at g.L.Layer.tree c.taking.heap) p t _ _ c.finish.result c.taking.invariant.shape c.finish.ensures.finishes);
+          (finish_along (rules_at g.L.Layer.model c.args.heap.now) (rules_at g.L.Layer.model c.taking.heap) p t _ _ c.finish.result c.taking.invariant.rules c.finish.ensures.finishes);
       held = c.finish.ensures.held;
-      shape = c.finish.ensures.shape ∙ c.taking.invariant.shape;
+      rules = c.finish.ensures.rules ∙ c.taking.invariant.rules;
     }
 
 pub taking-smaller : goal.taking-smaller
 taking-smaller g c =
-    let p = place_of c.taking.reader (run_at g.L.Layer.tree c.taking.heap c.taking.space) in
-    let q = place_of c.feed_all.new.reader (run_at g.L.Layer.tree c.feed_all.new.heap c.feed_all.new.space) in
+    let p = place_of c.taking.reader (run_at g.L.Layer.model c.taking.heap c.taking.space) in
+    let q = place_of c.feed_all.new.reader (run_at g.L.Layer.model c.feed_all.new.heap c.feed_all.new.space) in
     falls _ _ c.in-Ok.count 16777216 _ (fed_far _ p q c.front.result.now _ _ c.in-Goes.ensures.fed)
     (ap length c.front.ensures ∙ length-take-le c.in-Ok.count c.take.new.into c.in-Ok.ensures.bound)
     (omega (arith, c.if-count-eq0.false)) c.taking.reader.within
 
 pub taking-preserved : goal.taking-preserved
 taking-preserved g c =
-    let p = place_of c.taking.reader (run_at g.L.Layer.tree c.taking.heap c.taking.space) in
-    let q = place_of c.feed_all.new.reader (run_at g.L.Layer.tree c.feed_all.new.heap c.feed_all.new.space) in
+    let p = place_of c.taking.reader (run_at g.L.Layer.model c.taking.heap c.taking.space) in
+    let q = place_of c.feed_all.new.reader (run_at g.L.Layer.model c.feed_all.new.heap c.feed_all.new.space) in
     record {
       going = going_more _ _ _ _ _ _ _ _ p q (take c.in-Ok.count c.take.new.into) c.taking.invariant.going c.in-Ok.ensures.taken c.in-Ok.ensures.counted
-          (not_ended c.in-Ok.count _ c.in-Ok.ensures.finished c.if-count-eq0.false) (fed_along _ _ p q _ c.front.result.now _ _ step.Goes c.taking.invariant.shape c.front.ensures c.in-Goes.ensures.fed);
+          (not_ended c.in-Ok.count _ c.in-Ok.ensures.finished c.if-count-eq0.false) (fed_along _ _ p q _ c.front.result.now _ _ step.Goes c.taking.invariant.rules c.front.ensures c.in-Goes.ensures.fed);
       held = c.in-Goes.ensures.held;
-      shape = c.in-Goes.ensures.shape ∙ c.taking.invariant.shape;
+      rules = c.in-Goes.ensures.rules ∙ c.taking.invariant.rules;
     }
 
 pub returns-in-Stops : goal.returns-in-Stops
 returns-in-Stops g c =
-    let p = place_of c.taking.reader (run_at g.L.Layer.tree c.taking.heap c.taking.space) in
-    let q = place_of c.feed_all.new.reader (run_at g.L.Layer.tree c.feed_all.new.heap c.feed_all.new.space) in
+    let p = place_of c.taking.reader (run_at g.L.Layer.model c.taking.heap c.taking.space) in
+    let q = place_of c.feed_all.new.reader (run_at g.L.Layer.model c.feed_all.new.heap c.feed_all.new.space) in
     record {
       ran = going_stops _ _ _ _ _ _ _ _ p q (take c.in-Ok.count c.take.new.into) c.taking.invariant.going c.in-Ok.ensures.taken c.in-Ok.ensures.counted
-          (not_ended c.in-Ok.count _ c.in-Ok.ensures.finished c.if-count-eq0.false) (fed_along _ _ p q _ c.front.result.now _ _ step.Stops c.taking.invariant.shape c.front.ensures c.in-Stops.ensures.fed);
+          (not_ended c.in-Ok.count _ c.in-Ok.ensures.finished c.if-count-eq0.false) (fed_along _ _ p q _ c.front.result.now _ _ step.Stops c.taking.invariant.rules c.front.ensures c.in-Stops.ensures.fed);
       held = c.in-Stops.ensures.held;
-      shape = c.in-Stops.ensures.shape ∙ c.taking.invariant.shape;
+      rules = c.in-Stops.ensures.rules ∙ c.taking.invariant.rules;
     }
 
 pub returns-in-SinkFailed : goal.returns-in-SinkFailed
 returns-in-SinkFailed g c =
-    let p = place_of c.taking.reader (run_at g.L.Layer.tree c.taking.heap c.taking.space) in
-    let q = place_of c.feed_all.new.reader (run_at g.L.Layer.tree c.feed_all.new.heap c.feed_all.new.space) in
+    let p = place_of c.taking.reader (run_at g.L.Layer.model c.taking.heap c.taking.space) in
+    let q = place_of c.feed_all.new.reader (run_at g.L.Layer.model c.feed_all.new.heap c.feed_all.new.space) in
     record {
       ran = going_breaks _ _ _ _ _ _ _ _ p q (take c.in-Ok.count c.take.new.into) c.taking.invariant.going c.in-Ok.ensures.taken c.in-Ok.ensures.counted
-          (not_ended c.in-Ok.count _ c.in-Ok.ensures.finished c.if-count-eq0.false) (fed_along _ _ p q _ c.front.result.now _ _ step.SinkFailed c.taking.invariant.shape c.front.ensures c.in-SinkFailed.ensures.fed);
+          (not_ended c.in-Ok.count _ c.in-Ok.ensures.finished c.if-count-eq0.false) (fed_along _ _ p q _ c.front.result.now _ _ step.SinkFailed c.taking.invariant.rules c.front.ensures c.in-SinkFailed.ensures.fed);
       held = c.in-SinkFailed.ensures.held;
-      shape = c.in-SinkFailed.ensures.shape ∙ c.taking.invariant.shape;
+      rules = c.in-SinkFailed.ensures.rules ∙ c.taking.invariant.rules;
     }

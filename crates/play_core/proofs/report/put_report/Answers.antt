@@ -1,10 +1,10 @@
 use Rattle.std.proofs.Common.{sym, subst}
-use Rattle.layer_rules.specs.Layering.{Tree, Stands}
+use Rattle.layer_rules.specs.Layering.{LayerModel, Stands}
 use Rattle.play_core.proofs.ReportLemmas.{report_done, report_cut, lines_erred}
 use Rattle.play_core.proofs.report.put_report.Goals as goal
 
 pub put_nodes-requires : goal.put_nodes-requires
-put_nodes-requires g c = subst (λ (t : Tree). Stands t c.args.space.now) (sym c.root.ensures) c.requires.stands
+put_nodes-requires g c = subst (λ (t : LayerModel). Stands t c.args.space.now) (sym c.root.ensures) c.requires.stands
 
 pub returns : goal.returns
 returns g c = report_done _ _ _ c.args.space.now _ _ _ c.put_nodes.result c.root.ensures c.in_ok-put_totals.ensures c.put_nodes.ensures

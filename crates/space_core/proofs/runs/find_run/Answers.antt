@@ -1,6 +1,6 @@
 use Rattle.std.proofs.Common.{◌≡◌, false, arith, sym, ◌∙◌}
 use Rattle.space_core.specs.Cells.{is_aligned_cell}
-use Rattle.space_core.proofs.CellRuns.{first-behind, first-unaligned, first-here, first-end, free-inside}
+use Rattle.space_core.specs.CellRuns.{first-behind, first-unaligned, first-here, first-end, free-inside}
 use Rattle.space_core.proofs.runs.find_run.Goals as goal
 
 pub loop-from-preserved-in-Some : goal.loop-from-preserved-in-Some

@@ -1,6 +1,6 @@
 use Rattle.std.proofs.Common.{◌≡◌, ◌-◌, length}
 use Rattle.space_core.specs.Cells.{is_aligned_cell}
-use Rattle.space_core.proofs.CellRuns.{first_from}
+use Rattle.space_core.specs.CellRuns.{first_from}
 use Rattle.space_core.proofs.runs.find_run.Given as goal
 
 abbrev pub invariant-loop-from : goal.invariant-loop-from

@@ -6,7 +6,7 @@ use Rattle.heap_core.proofs.heap.Heap.extent.Goals as goal
 
 pub overflow_add-total : goal.overflow_add-total
 overflow_add-total g c =
-    let tree = g.L.Layer.tree c.args.self.now.root in
+    let tree = g.L.Layer.model c.args.self.now.root in
     let all = c.entries-named-items.ensures.all in
     let table = subst IsTable (sym all) c.entries-named-items.ensures.table in
     let short = subst (AreMeasured tree) (sym all) c.requires in

@@ -16,4 +16,4 @@ returns-in-None g c =
 
 pub returns-in-Some : goal.returns-in-Some
 returns-in-Some g c =
-    rw c.remove.ensures.after (block-freed _ _ _ _ _ _ _ _ c.requires (g.met.L.Layer.shaped c.deallocate-yes.new.self) (sym c.in-Some.ensures.block) c.deallocate-yes.ensures)
+    rw c.remove.ensures.after (block-freed _ _ _ _ _ _ _ _ c.requires (g.met.L.Layer.made c.deallocate-yes.new.self) (sym c.in-Some.ensures.block) c.deallocate-yes.ensures)

@@ -1,0 +1,3 @@
+pub mod AffixLawful
+pub mod AffixMeanings
+pub mod AffixRules

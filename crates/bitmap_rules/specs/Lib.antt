@@ -1,0 +1,5 @@
+pub mod BitmapRules
+pub mod BitmapMeanings
+pub mod BitmapPlaces
+pub mod BitmapParts
+pub mod BitmapRegular

@@ -1,0 +1,3 @@
+pub mod LeafModel
+pub mod LevelModel
+pub mod HalfModel

@@ -1,0 +1,99 @@
+// One level of a composition.
+use layer_core::{Block, Fact, Layer, Offers, Refused};
+use region_block::Region;
+use space_core::Space;
+
+/// One level of a composition: a layer of some form over a parent, or the parent alone. Each call does what
+/// the layer inside does.
+#[derive(Drop)]
+pub enum Over<P: Layer> {
+    /// The parent alone: no node, and no layer on a path.
+    Pass(P),
+    /// A region over the parent.
+    Region(Box<Region<P>>),
+}
+
+impl<P: Layer> Layer for Over<P> {
+    ghost use Rattle.composition.specs.LevelModel.{over_of, over_made};
+
+    ghost model = { over_of P.model };
+
+    fn nodes(&self) -> u32 {
+        match self {
+            Over::Pass(parent) => parent.nodes(),
+            Over::Region(layer) => layer.nodes(),
+        }
+    }
+
+    fn offers(&self) -> Offers {
+        match self {
+            Over::Pass(parent) => parent.offers(),
+            Over::Region(layer) => layer.offers(),
+        }
+    }
+
+    fn alignment(&self) -> u64 {
+        match self {
+            Over::Pass(parent) => parent.alignment(),
+            Over::Region(layer) => layer.alignment(),
+        }
+    }
+
+    fn good_alloc_size(&self, n: u64) -> u64 {
+        match self {
+            Over::Pass(parent) => parent.good_alloc_size(n),
+            Over::Region(layer) => layer.good_alloc_size(n),
+        }
+    }
+
+    fn is_open(&self) -> bool {
+        match self {
+            Over::Pass(parent) => parent.is_open(),
+            Over::Region(layer) => layer.is_open(),
+        }
+    }
+
+    fn set_up(&mut self, space: &mut Space, need: u64) -> Result<(), Refused> {
+        match self {
+            Over::Pass(parent) => parent.set_up(space, need),
+            Over::Region(layer) => layer.set_up(space, need),
+        }
+    }
+
+    fn tear_down(&mut self, space: &mut Space) {
+        match self {
+            Over::Pass(parent) => parent.tear_down(space),
+            Over::Region(layer) => layer.tear_down(space),
+        }
+    }
+
+    fn allocate(&mut self, space: &mut Space, n: u64) -> Option<Block> {
+        match self {
+            Over::Pass(parent) => parent.allocate(space, n),
+            Over::Region(layer) => layer.allocate(space, n),
+        }
+    }
+
+    fn deallocate(&mut self, space: &mut Space, b: Block) -> bool {
+        match self {
+            Over::Pass(parent) => parent.deallocate(space, b),
+            Over::Region(layer) => layer.deallocate(space, b),
+        }
+    }
+
+    fn extent(&self, b: Block) -> u64 {
+        match self {
+            Over::Pass(parent) => parent.extent(b),
+            Over::Region(layer) => layer.extent(b),
+        }
+    }
+
+    fn fact(&self, space: &Space, node: u32) -> Fact {
+        match self {
+            Over::Pass(parent) => parent.fact(space, node),
+            Over::Region(layer) => layer.fact(space, node),
+        }
+    }
+
+    ghost made = { λ l. over_made P.made l };
+}

@@ -1,0 +1,105 @@
+//! From what a row spells to an expression: what each word's form takes out of the arguments.
+
+ghost use Rattle.std.specs.Prelude.{◌≡◌, ◌≤◌, ℕ, suc, false, IfOk};
+ghost use Rattle.expr_reader.specs.Nodes.{node_tree, args_tree};
+ghost use Rattle.expr_reader.specs.Signatures.{left, takes, inner};
+ghost use Rattle.expr_reader.specs.Grammar.{Fits, FitsIn, depth, greatest_depth};
+ghost use Rattle.expr_reader.specs.Trees.{leaf, node, last, tree_of, form_tree};
+ghost use Rattle.expr_reader.specs.Trees as trees;
+ghost use Rattle.expr_reader.specs.declared.signature.Entry.TheVariants.{Alone};
+
+use crate::node::{Args, Node};
+use crate::token::Name;
+use crate::tree::{Expr, Form};
+use std::alloc::{AllocError, Global};
+
+/// A number, behind which `more` numbers and the last layer come.
+#[tactic(auto, using(crate::proofs::Nothing::nothing_fits))]
+fn number(args: Args, more: u32) -> (u64, Args)
+    requires { FitsIn (args_tree args) (left (suc more) 0 false) }
+    ensures is { args_tree args ≡ trees.number result.0 (args_tree result.1) }
+    ensures behind { FitsIn (args_tree result.1) (left more 0 false) }
+{
+    match args {
+        Args::Number { value, rest } => (value, Box::into_inner(rest)),
+        _ => unreachable!(),
+    }
+}
+
+/// The last layer.
+#[tactic(auto, using(crate::proofs::Nothing::nothing_fits))]
+fn only(args: Args) -> Node
+    requires { FitsIn (args_tree args) (left 0 0 false) }
+    ensures is { args_tree args ≡ last (node_tree result) }
+    ensures fits { Fits (node_tree result) }
+{
+    match args {
+        Args::Last { below } => Box::into_inner(below),
+        _ => unreachable!(),
+    }
+}
+
+/// The form of a word that stands alone.
+fn leaf_form(name: Name) -> Form
+    requires { takes name ≡ Alone }
+    ensures { (at : ℕ) → form_tree at result ≡ leaf at name }
+{
+    match name {
+        Name::Null => Form::Null,
+        Name::Mem => Form::Mem,
+        _ => unreachable!(),
+    }
+}
+
+/// The form of a layer, with `left` layers at most below it.
+#[cycle(forms)]
+#[tactic(auto, using(crate::proofs::Nothing::nothing_fits))]
+fn layer_form(alloc: Global, left: u32, name: Name, args: Args) -> Result<Form, AllocError>
+    requires fits { FitsIn (args_tree args) (inner (takes name)) }
+    requires shallow { greatest_depth (args_tree args) ≤ left }
+    ensures { IfOk result (λ form. (at : ℕ) → form_tree at form ≡ node at name (args_tree args)) }
+{
+    match name {
+        Name::Region => {
+            let (size, args) = number(args, 1);
+            let (align, args) = number(args, 0);
+            let parent = expr_of(alloc, left, only(args))?;
+            Ok(Form::Region {
+                size,
+                align,
+                parent: Box::new(alloc, parent)?,
+            })
+        }
+        Name::Null
+        | Name::Mem
+        | Name::Bitmap
+        | Name::Kr
+        | Name::FreeList
+        | Name::Quantize
+        | Name::Stats
+        | Name::Affix
+        | Name::Segregate
+        | Name::Buckets
+        | Name::Fallback
+        | Name::List => unreachable!(),
+    }
+}
+
+/// The expression that was read, of `left` layers at most.
+#[cycle(forms)]
+pub fn expr_of(alloc: Global, left: u32, node: Node) -> Result<Expr, AllocError>
+    requires fits { Fits (node_tree node) }
+    requires shallow { depth (node_tree node) ≤ left }
+    ensures { IfOk result (λ e. tree_of e ≡ node_tree node) }
+{
+    match node {
+        Node::Leaf { at, name } => Ok(Expr {
+            at,
+            form: leaf_form(name),
+        }),
+        Node::Inner { at, name, args } => Ok(Expr {
+            at,
+            form: layer_form(alloc, left - 1, name, args)?,
+        }),
+    }
+}

@@ -1,0 +1,47 @@
+-- A free list is lawful over a parent that is regular and lawful.
+use Rattle.std.proofs.Common.{refl, subst, ℕ, []}
+use Rattle.layer_rules.specs.State.{is_open, cache_own}
+use Rattle.layer_rules.specs.Rules.{Rules, IsSettled, HasSomeTags}
+use Rattle.layer_laws.specs.Lawful.{KeepingLaws, Opens, OpeningLaws, OpennessLaws, IsRegular, IsLawful}
+use Rattle.layer_laws.specs.Steps.{parent-ok}
+use Rattle.layer_laws.specs.Tests.{some-open}
+use Rattle.free_list_rules.specs.FreeListRules.{cache_need, free_list_rules}
+use Rattle.free_list_rules.specs.FreeListMeanings.{IsCacheSize}
+use Rattle.free_list_rules.specs.CacheParts.{cache-settles, out-free_list}
+use Rattle.free_list_rules.specs.FreeListGood.{free_list-good}
+use Rattle.free_list_rules.specs.FreeListChanges.{free_list-freed, free_list-grown, free_list-emptied}
+use Rattle.free_list_rules.specs.FreeListPlacing.{free_list-placing}
+use Rattle.free_list_rules.specs.FreeListFraming.{free_list-framing}
+
+pub free_list-keeping : (least greatest : ℕ) (e : Rules) → KeepingLaws e → KeepingLaws (free_list_rules least greatest e)
+unfolding free_list_rules
+free_list-keeping least greatest e p =
+    record {
+      out_open = λ b s cells o. some-open (is_open s) _ _ o;
+      out_some = λ b s cells o. (out-free_list least greatest e b s cells o).some;
+      good = free_list-good least greatest e p.good;
+      freed = free_list-freed least greatest e p.freed;
+      grown = free_list-grown least greatest e p.grown;
+      emptied = free_list-emptied least greatest e p.emptied;
+    }
+
+free_list-opens : (least greatest : ℕ) (e : Rules) → OpennessLaws e → Opens e → Opens (free_list_rules least greatest e)
+unfolding free_list_rules
+free_list-opens least greatest e open_laws law need cells o n q =
+    let size = cache_need least greatest need in
+    let y = parent-ok (cache_own []) (e.set_up size cells) o q in
+    subst (λ o. IsSettled (free_list_rules least greatest e) o.state o.cells) y.2
+    (cache-settles greatest e [] y.0.state y.0.cells (open_laws.set_up size cells y.0 y.1) tt tt (law size cells y.0 n y.1))
+
+pub free_list-opening : (least greatest : ℕ) (e : Rules) → OpennessLaws e → OpeningLaws e → OpeningLaws (free_list_rules least greatest e)
+unfolding free_list_rules
+free_list-opening least greatest e o p = record { closed_settled = λ cells. refl; closed_image = λ bytes. refl; opens = free_list-opens least greatest e o p.opens }
+
+pub free_list-lawful : (least greatest : ℕ) (e : Rules) → IsCacheSize least greatest → HasSomeTags e → IsRegular e → IsLawful e → IsLawful (free_list_rules least greatest e)
+free_list-lawful least greatest e w t r p =
+    record {
+      keeping = free_list-keeping least greatest e p.keeping;
+      placing = free_list-placing least greatest e t p.placing;
+      framing = free_list-framing least greatest e w p.placing p.framing;
+      opening = free_list-opening least greatest e r.openness p.opening;
+    }

@@ -1,0 +1,5 @@
+use Rattle.kr_rules.specs.KrParts.{out_of_kr}
+use Rattle.kr_rules.proofs.out_of_kr.Goals as goal
+
+pub returns : goal.returns
+returns c = out_of_kr

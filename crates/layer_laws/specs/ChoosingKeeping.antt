@@ -1,0 +1,254 @@
+-- Choosing by length: what calls keep and give, over lawful members with tags of their own.
+use Rattle.std.proofs.Common.{◌≡◌, refl, sym, ap, subst, ◌∙◌, ℕ, ◌≤◌, ◌<◌, ◌+◌, ◌-◌, inl, inr, Bool, true, false, ◌&&◌, arith, List, length, nat_eq, Option, option_map}
+use Rattle.std.proofs.lemmas.Bool.Decides.{nat_tests}
+use Rattle.space_core.specs.Cells.{Cells}
+use Rattle.layer_rules.specs.declared.Block.{Block}
+use Rattle.layer_rules.specs.Blocks.{with_len}
+use Rattle.layer_rules.specs.State.{State, States, nothing, is_open, child, children_of, open_with, nth_child}
+use Rattle.layer_rules.specs.After.{After, after, Placed, from_child}
+use Rattle.layer_rules.specs.After.{opened as opened_as}
+use Rattle.layer_rules.specs.Expanding.{change_if}
+use Rattle.layer_rules.specs.Rules.{Rules, IsLeaf, IsSettled, AreApart, longer_if}
+use Rattle.layer_rules.specs.Members.{nth, empty_each}
+use Rattle.layer_rules.specs.Choosing.{Choosing, chosen_down, have_one_member, choose_serve, choose_growth, choosing_rules}
+use Rattle.layer_laws.specs.Basics.{and-fst, and-snd}
+use Rattle.layer_laws.specs.Children.{IsShown, shown-of}
+use Rattle.layer_laws.specs.Chooses.{AreMembers}
+use Rattle.layer_laws.specs.Lawful.{IsGood, Good, IsFreed, Freeing, IsGrown, Growing, IsEmptied, Emptying, OnlyOwnCells, KeepingLaws}
+use Rattle.layer_laws.specs.MembersLawful.{leaf-in, beside, some-member, GroupParts, are-from, out-some, kept-taken, kept-freed, members-emptied}
+use Rattle.layer_laws.specs.ChoosingParts.{out-chosen, chosen-out, chosen-opened, extent-member, apart-member, IsMemberChanged, with_member, changed-sound, changed-extents, changed-out, changed-stays, changed-fresh}
+use Rattle.layer_laws.specs.Steps.{refuse-good, asked-good, kept-short, kept-long, asked-grown, longer-some}
+use Rattle.layer_laws.specs.Tests.{some-open}
+
+-- a block that the member gave is handed down as it gave it
+shown-back : (h : Choosing) (n : ℕ) (b : Block) → b.len ≡ h.asked n → chosen_down h (with_len b n) ≡ b
+shown-back h n b q = ap (with_len b) (sym q)
+
+other : (es : List Rules) (i : ℕ) (h : Choosing) (w : AreMembers h es) (j : ℕ) → (j ≡ i → ⊥) → (t : ℕ) → IsLeaf (nth es i) t → IsLeaf (nth es j) t → ⊥
+other es i h w j n t x y = beside es i j t w.own.distinct (λ e. n (sym e)) x y
+
+-- ---- a request
+
+member-serves : (h : Choosing) (es : List Rules) (i : ℕ) (ss : States) (cells : Cells) (n : ℕ) (r : After (Option Placed)) → AreMembers h es
+    → 1 ≤ n → h.fits n ≡ true → h.chosen n ≡ i → i < length es → GroupParts es (open_with nothing ss) cells → OnlyOwnCells (nth es i) cells r.cells → IsGood (nth es i) (nth_child ss i) cells (h.asked n) r
+    → IsGood (choosing_rules h es) (open_with nothing ss) cells n (after (option_map (from_child (h.shown n) i) r.answer) (with_member i ss r.state) r.cells)
+member-serves h es i ss cells n r w l f mf li p taken g =
+    let e = nth es i in
+    let old = open_with nothing ss in
+    let new = with_member i ss r.state in
+    let m : IsMemberChanged es i ss r.state cells r.cells = record {
+      parts = p;
+      there = li;
+      is_set = g.is_set;
+      settled = g.settled;
+      extents = g.extents;
+      others = λ j k. kept-taken e (nth es j) cells r.cells (some-member es j w.own) (other es i h w j k) taken;
+    } in
+    let block_of = λ (q : Placed) (x : IsShown i (h.shown n) r.answer q). let y : q.block ≡ with_len x.below.block n = x.block ∙ w.chooses.shown n x.below.block (g.len x.below x.answered) in y in
+    let out_of = λ (q : Placed) (x : IsShown i (h.shown n) r.answer q).
+    let y : e.is_out (chosen_down h (with_len x.below.block n)) r.state r.cells ≡ true =
+    subst (λ b. e.is_out b r.state r.cells ≡ true) (sym (shown-back h n x.below.block (g.len x.below x.answered))) (g.out x.below x.answered) in y in
+    record {
+      is_set = refl;
+      settled = changed-sound h es i ss r.state cells r.cells w m;
+      extents = λ b. changed-extents h es i ss r.state cells r.cells m b;
+      stays = λ b o. changed-stays h es i ss r.state cells r.cells w m b o (λ y z x. g.stays (chosen_down h b) x);
+      len = λ q z. let x = shown-of i (h.shown n) r.answer q z in ap (λ (b : Block). b.len) (block_of q x);
+      out = λ q z.
+          let x = shown-of i (h.shown n) r.answer q z in
+          subst (λ b. (choosing_rules h es).is_out b new r.cells ≡ true) (sym (block_of q x)) (changed-out h es i ss r.state cells r.cells m (with_len x.below.block n) l f mf (out_of q x));
+      fresh = λ q z b o.
+          let x = shown-of i (h.shown n) r.answer q z in
+          subst (λ c. AreApart (choosing_rules h es) old c b) (sym (block_of q x))
+          (changed-fresh h es i ss r.state cells r.cells w m (with_len x.below.block n) f mf (out_of q x) b o
+          (λ y z u. subst (λ c. AreApart e (nth_child ss i) c (chosen_down h b)) (sym (shown-back h n x.below.block (g.len x.below x.answered))) (g.fresh x.below x.answered (chosen_down h b) u)));
+    }
+
+serve-case : (h : Choosing) (es : List Rules) (ss : States) (cells : Cells) (n : ℕ) (q : Bool) → h.fits n ≡ q → AreMembers h es → 1 ≤ n → GroupParts es (open_with nothing ss) cells → IsSettled (choosing_rules h es) (open_with nothing ss) cells
+    → IsGood (choosing_rules h es) (open_with nothing ss) cells n (choose_serve q (h.shown n) (h.chosen n) ((nth es (h.chosen n)).allocate (h.asked n)) (open_with nothing ss) cells)
+serve-case h es ss cells n false f w l p s = refuse-good (choosing_rules h es) n (open_with nothing ss) cells refl s
+serve-case h es ss cells n true f w l p s =
+    let i = h.chosen n in
+    let li = w.chooses.there n f in
+    let t = nth_child ss i in
+    let m = h.asked n in
+    member-serves h es i ss cells n ((nth es i).allocate m t cells) w l f refl li p ((w.regular i).taking.allocate m t cells) ((w.lawful i).keeping.good m t cells (p.all_open i li) (p.settled i li))
+
+choosing-good : (h : Choosing) (es : List Rules) → AreMembers h es → Good (choosing_rules h es)
+unfolding choosing_rules
+choosing-good h es w n s cells o z =
+    let f = choosing_rules h es in
+    let x = chosen-opened h es s cells o z in
+    subst (λ s. IsSettled f s cells → is_open s ≡ true → GroupParts es s cells → IsGood f s cells n (f.allocate n s cells)) (sym x.form)
+    (λ z o x. asked-good f n _ _ cells o z (λ l m. serve-case h es (children_of s) cells n _ refl w l x z)) z o x
+
+-- ---- a block is given back
+
+member-freed : (h : Choosing) (es : List Rules) (i : ℕ) (ss : States) (cells : Cells) (b : Block) (r : After Bool) → AreMembers h es
+    → h.fits b.len ≡ true → h.chosen b.len ≡ i → i < length es → GroupParts es (open_with nothing ss) cells → IsFreed (nth es i) (nth_child ss i) cells (chosen_down h b) r
+    → IsFreed (choosing_rules h es) (open_with nothing ss) cells b (after r.answer (with_member i ss r.state) r.cells)
+unfolding choosing_rules
+member-freed h es i ss cells b r w f at_i li p g =
+    let m : IsMemberChanged es i ss r.state cells r.cells = record {
+      parts = p;
+      there = li;
+      is_set = g.is_set;
+      settled = g.settled;
+      extents = g.extents;
+      others = λ j k. kept-freed (nth es j) (IsLeaf (nth es i)) cells r.cells (some-member es j w.own) (other es i h w j k) g.table;
+    } in
+    record {
+      is_set = refl;
+      settled = changed-sound h es i ss r.state cells r.cells w m;
+      extents = λ c. changed-extents h es i ss r.state cells r.cells m c;
+      stays = λ c o a. changed-stays h es i ss r.state cells r.cells w m c o (λ k e x. g.stays (chosen_down h c) x (apart-member h es b c (open_with nothing ss) i f k at_i e a));
+      table = λ c. elim (g.table c) [ inl z ↦ inl z | inr z ↦ inr (z.0, leaf-in es i _ z.1) ];
+    }
+
+choosing-freed : (h : Choosing) (es : List Rules) → AreMembers h es → Freeing (choosing_rules h es)
+unfolding choosing_rules
+choosing-freed h es w b s cells o z x =
+    let f = choosing_rules h es in
+    let i = h.chosen b.len in
+    let c = chosen_down h b in
+    let y = chosen-opened h es s cells o z in
+    let q = out-chosen h es b s cells x in
+    let li = out-some es i c (child s i) cells q.below in
+    let g = (w.lawful i).keeping.freed c (child s i) cells (y.all_open i li) (y.settled i li) q.below in
+    subst (λ s. GroupParts es s cells → IsFreed f s cells b (f.deallocate b s cells)) (sym y.form)
+    (λ y. member-freed h es i (children_of s) cells b ((nth es i).deallocate c (child s i) cells) w q.fits refl li y g) y
+
+-- ---- a block grows
+
+-- a block that grew is handed down as what grew there
+grown-down : (h : Choosing) (a : Bool) (delta : ℕ) (b : Block) → h.asked b.len ≤ h.asked (b.len + delta)
+    → chosen_down h (longer_if a delta b) ≡ longer_if a (h.asked (b.len + delta) - h.asked b.len) (chosen_down h b)
+grown-down h true delta b l = let q : h.asked (b.len + delta) ≡ h.asked b.len + (h.asked (b.len + delta) - h.asked b.len) = omega arith in ap (with_len b) q
+grown-down h false delta b l = refl
+
+grown-length : (P : ℕ → Type 0) (a : Bool) (delta : ℕ) (b : Block) → P b.len → P (b.len + delta) → P (longer_if a delta b).len
+grown-length P true delta b x y = y
+grown-length P false delta b x y = x
+
+member-grows : (h : Choosing) (es : List Rules) (i : ℕ) (ss : States) (cells : Cells) (b : Block) (delta : ℕ) (r : After Bool) → AreMembers h es
+    → h.fits b.len ≡ true → h.fits (b.len + delta) ≡ true → h.chosen b.len ≡ i → h.chosen (b.len + delta) ≡ i → 1 ≤ b.len → i < length es → GroupParts es (open_with nothing ss) cells
+    → IsGrown (nth es i) (nth_child ss i) cells (chosen_down h b) (h.asked (b.len + delta) - h.asked b.len) r
+    → IsGrown (choosing_rules h es) (open_with nothing ss) cells b delta (after r.answer (with_member i ss r.state) r.cells)
+unfolding choosing_rules
+member-grows h es i ss cells b delta r w f f_new at_i at_new some li p g =
+    let e = nth es i in
+    let old = open_with nothing ss in
+    let new = with_member i ss r.state in
+    let grown = longer_if r.answer delta b in
+    let m : IsMemberChanged es i ss r.state cells r.cells = record {
+      parts = p;
+      there = li;
+      is_set = g.is_set;
+      settled = g.settled;
+      extents = g.extents;
+      others = λ j k. kept-taken e (nth es j) cells r.cells (some-member es j w.own) (other es i h w j k) g.table;
+    } in
+    let fits = grown-length (λ n. h.fits n ≡ true) r.answer delta b f f_new in
+    let chosen = grown-length (λ n. h.chosen n ≡ i) r.answer delta b at_i at_new in
+    let l : b.len ≤ b.len + delta = omega arith in
+    let q = grown-down h r.answer delta b (w.chooses.in_order b.len (b.len + delta) f f_new (at_i ∙ sym at_new) l) in
+    let out : e.is_out (chosen_down h grown) r.state r.cells ≡ true = subst (λ c. e.is_out c r.state r.cells ≡ true) (sym q) g.out in
+    record {
+      is_set = refl;
+      settled = changed-sound h es i ss r.state cells r.cells w m;
+      extents = λ c. changed-extents h es i ss r.state cells r.cells m c;
+      stays = λ c o a. changed-stays h es i ss r.state cells r.cells w m c o (λ k y x. g.stays (chosen_down h c) x (λ z. apart-member h es b c old i f k at_i y (a z)));
+      out = changed-out h es i ss r.state cells r.cells m grown (longer-some r.answer delta b some) fits chosen out;
+      fresh = λ c o a. changed-fresh h es i ss r.state cells r.cells w m grown fits chosen out c o
+          (λ k y x. subst (λ d. AreApart e (nth_child ss i) d (chosen_down h c)) (sym q) (g.fresh (chosen_down h c) x (apart-member h es b c old i f k at_i y a)));
+      table = record { count = g.table.count; each = λ c. elim (g.table.each c) [ inl z ↦ inl z | inr z ↦ inr (z.0, leaf-in es i _ z.1) ] };
+    }
+
+-- two lengths of one member
+pub record HaveOneMember (h : Choosing) (m n : ℕ) : Type 0 where
+  pub less : h.fits m ≡ true
+  pub more : h.fits n ≡ true
+  pub same : h.chosen m ≡ h.chosen n
+
+pub one-member : (h : Choosing) (m n : ℕ) → have_one_member h m n ≡ true → HaveOneMember h m n
+one-member h m n q =
+    let r = and-snd (h.fits m) (h.fits n && nat_eq (h.chosen m) (h.chosen n)) q in
+    let z = and-snd (h.fits n) (nat_eq (h.chosen m) (h.chosen n)) r in
+    record { less = and-fst (h.fits m) (h.fits n && nat_eq (h.chosen m) (h.chosen n)) q; more = and-fst (h.fits n) (nat_eq (h.chosen m) (h.chosen n)) r; same = grind (arith, nat_tests) }
+
+-- both lengths are asked as one
+grows-enough : (h : Choosing) (es : List Rules) (b : Block) (delta : ℕ) (s : State) (cells : Cells) → HaveOneMember h b.len (b.len + delta) → h.asked b.len ≡ h.asked (b.len + delta)
+    → is_open s ≡ true → IsSettled (choosing_rules h es) s cells → (choosing_rules h es).is_out b s cells ≡ true → IsGrown (choosing_rules h es) s cells b delta (after true s cells)
+grows-enough h es b delta s cells one q o z x =
+    let f = choosing_rules h es in
+    let c = with_len b (b.len + delta) in
+    let i = h.chosen b.len in
+    let y = out-chosen h es b s cells x in
+    let some = y.some in
+    let same : chosen_down h b ≡ chosen_down h c = ap (with_len b) q in
+    kept-long f s cells b delta o z
+    (chosen-out h es c s cells (record {
+      is_set = o;
+      some = omega arith;
+      fits = one.more;
+      below = subst (λ k. (nth es k).is_out (chosen_down h c) (child s k) cells ≡ true) one.same (subst (λ d. (nth es i).is_out d (child s i) cells ≡ true) same y.below);
+    }))
+    (extent-member h es c s i one.more (sym one.same) ∙ ap (λ d. (nth es i).extent d (child s i)) (sym same) ∙ sym (extent-member h es b s i one.less refl))
+
+-- the member's own growth, where that is offered
+growth-case : (h : Choosing) (es : List Rules) (ss : States) (cells : Cells) (b : Block) (delta : ℕ) (q z : Bool) → have_one_member h b.len (b.len + delta) ≡ q → nat_eq (h.asked b.len) (h.asked (b.len + delta)) ≡ z → AreMembers h es
+    → GroupParts es (open_with nothing ss) cells → IsSettled (choosing_rules h es) (open_with nothing ss) cells → (choosing_rules h es).is_out b (open_with nothing ss) cells ≡ true
+    → IsGrown (choosing_rules h es) (open_with nothing ss) cells b delta (change_if q (choose_growth z (h.chosen b.len) ((nth es (h.chosen b.len)).expand (h.asked (b.len + delta) - h.asked b.len))) (chosen_down h b) (open_with nothing ss) cells)
+growth-case h es ss cells b delta false z x y w p s o = kept-short (choosing_rules h es) (open_with nothing ss) cells b delta refl s o
+growth-case h es ss cells b delta true true x y w p s o =
+    let same : h.asked b.len ≡ h.asked (b.len + delta) = grind (arith, nat_tests) in grows-enough h es b delta (open_with nothing ss) cells (one-member h b.len (b.len + delta) x) same refl s o
+growth-case h es ss cells b delta true false x y w p s o =
+    let i = h.chosen b.len in
+    let more = h.asked (b.len + delta) - h.asked b.len in
+    let t = nth_child ss i in
+    let c = chosen_down h b in
+    let one = one-member h b.len (b.len + delta) x in
+    let out = out-chosen h es b (open_with nothing ss) cells o in
+    let li = out-some es i c t cells out.below in
+    let g = (w.lawful i).keeping.grown more c t cells (p.all_open i li) (p.settled i li) out.below in
+    member-grows h es i ss cells b delta ((nth es i).expand more c t cells) w one.less one.more refl (sym one.same) out.some li p g
+
+choosing-grown : (h : Choosing) (es : List Rules) → AreMembers h es → Growing (choosing_rules h es)
+unfolding choosing_rules
+choosing-grown h es w delta b s cells o z x =
+    let f = choosing_rules h es in
+    let y = chosen-opened h es s cells o z in
+    subst (λ s. IsSettled f s cells → is_open s ≡ true → GroupParts es s cells → f.is_out b s cells ≡ true → IsGrown f s cells b delta (f.expand delta b s cells)) (sym y.form)
+    (λ z o y x. asked-grown f delta _ b _ cells o z x (λ l m. growth-case h es (children_of s) cells b delta _ _ refl refl w y z x)) z o y x
+
+-- ---- all blocks are taken back
+
+choosing-emptied : (h : Choosing) (es : List Rules) → AreMembers h es → Emptying (choosing_rules h es)
+unfolding choosing_rules
+choosing-emptied h es w s cells o z =
+    let f = choosing_rules h es in
+    let y = chosen-opened h es s cells o z in
+    let r = empty_each es 0 (open_with nothing (children_of s)) cells in
+    let g = members-emptied es nothing w.own w.lawful (children_of s) cells y.children (λ j l. y.all_open j l) (λ j l. y.settled j l) in
+    subst (λ s. IsEmptied f cells (f.deallocate_all s cells)) (sym y.form)
+    (subst (λ k. IsEmptied f cells (opened_as k r.cells)) (sym g.form)
+    (record {
+      is_set = refl;
+      settled = are-from es (children_of r.state) r.cells g.whole.count (λ j l. (g.whole.all_open j l, g.whole.settled j l));
+      none = λ b x.
+          let z = (out-chosen h es b (open_with nothing (children_of r.state)) r.cells x).below in
+          let i = h.chosen b.len in
+          g.whole.none i (out-some es i (chosen_down h b) (nth_child (children_of r.state) i) r.cells z) (chosen_down h b) z;
+      table = g.whole.table;
+    }))
+
+pub choosing-keeping : (h : Choosing) (es : List Rules) → AreMembers h es → KeepingLaws (choosing_rules h es)
+unfolding choosing_rules
+choosing-keeping h es w = record {
+  out_some = λ b s cells o. (out-chosen h es b s cells o).some;
+  out_open = λ b s cells o. some-open (is_open s) _ _ o;
+  good = choosing-good h es w;
+  freed = choosing-freed h es w;
+  grown = choosing-grown h es w;
+  emptied = choosing-emptied h es w;
+}

@@ -1,0 +1,430 @@
+-- What hands its blocks down is lawful over a lawful parent.
+use Rattle.std.proofs.Common.{◌≡◌, refl, sym, ap, subst, ◌∙◌, ℕ, ◌≤◌, ◌+◌, ◌-◌, ◌*◌, ◌/◌, ◌⊎◌, inl, inr, Bool, true, false, ◌&&◌, arith, List, length, get_or, cond, Option, Ok, Err, option_map, is_some, nat_eq, nat_le}
+use Rattle.std.proofs.lemmas.Bool.{and_from}
+use Rattle.std.proofs.lemmas.Bool.Decides.{nat_tests}
+use Rattle.size_round.specs.Sizes.{limit}
+use Rattle.space_core.specs.Cells.{Cells}
+use Rattle.space_core.specs.Memory.{most_cells}
+use Rattle.layer_rules.specs.declared.Block.{Block}
+use Rattle.layer_rules.specs.Blocks.{no_block, end_of, is_apart}
+use Rattle.layer_rules.specs.Expanding.{change_if}
+use Rattle.layer_rules.specs.Fields.{closed_fields, open_fields, nth_fields}
+use Rattle.layer_rules.specs.State.{State, Own, open_with, one_child, is_open, own_of, child}
+use Rattle.layer_rules.specs.After.{After, after, Placed, from_child, refuse, Opened, Opening}
+use Rattle.layer_rules.specs.Owning.{is_plausible}
+use Rattle.layer_rules.specs.Setting.{open_parent}
+use Rattle.layer_rules.specs.Rules.{Rules, HasSomeTags, IsSettled, AreApart, longer_if}
+use Rattle.layer_rules.specs.Testing.{is_over}
+use Rattle.layer_rules.specs.Handing.{Handing, hand_request, hand_expansion, handing_rules}
+use Rattle.layer_laws.specs.Lawful.{IsGood, Good, IsFreed, Freeing, IsGrown, Growing, IsEmptied, Emptying, Covers, Covering, Routing, Aligning, OutTags, SettledTags, TagsKept, Opens, OnlyOwnCells, IsSameOrApart, ChangesInside, OwnKept, OwnFraming, Framing, OpennessLaws, IsRegular, KeepingLaws, PlacingLaws, FramingLaws, OpeningLaws, IsLawful}
+use Rattle.layer_laws.specs.HandsDown.{HandingIsLawful, RoundKept, HandsDown}
+use Rattle.layer_laws.specs.Basics.{and-fst, and-snd}
+use Rattle.layer_laws.specs.Tables.{tag-in_range}
+use Rattle.layer_laws.specs.Tests.{opened, over-parts, some-open, settled-moved}
+use Rattle.layer_laws.specs.Steps.{refuse-good, kept-short, by-nothing, offered-grown, longer-some, parent-ok, inside-wider}
+use Rattle.layer_laws.specs.Children.{IsShown, shown-of}
+
+-- ---- what the tests say
+
+pub record HandParts (h : Handing) (e : Rules) (s : State) (cells : Cells) : Type 0 where
+  pub form : s ≡ open_with (own_of s) (one_child (child s 0))
+  pub own : h.passes (own_of s) ≡ true
+  pub parent : is_open (child s 0) ≡ true
+  pub below : IsSettled e (child s 0) cells
+
+abbrev pub hand_settled : Handing → Rules → State → Cells → Bool
+hand_settled h e s cells = is_over h.passes s && e.is_settled (child s 0) cells
+
+pub hand-parts : (h : Handing) (e : Rules) (s : State) (cells : Cells) → hand_settled h e s cells ≡ true → HandParts h e s cells
+hand-parts h e s cells z =
+    let o = over-parts h.passes s (and-fst (is_over h.passes s) (e.is_settled (child s 0) cells) z) in
+    record { form = o.form; own = o.own; parent = o.parent; below = and-snd (is_over h.passes s) (e.is_settled (child s 0) cells) z }
+
+pub hand-settles : (h : Handing) (e : Rules) (own : Own) (t : State) (cells : Cells) → h.passes own ≡ true → is_open t ≡ true → IsSettled e t cells → hand_settled h e (open_with own (one_child t)) cells ≡ true
+hand-settles h e own t cells p o z = and_from _ _ (and_from _ _ p o) z
+
+pub hand-opened : (h : Handing) (e : Rules) (s : State) (cells : Cells) → is_open s ≡ true → IsSettled (handing_rules h e) s cells → HandParts h e s cells
+unfolding handing_rules
+hand-opened h e s cells o z = hand-parts h e s cells (opened s e.leaf_tags cells (hand_settled h e s cells) o z)
+
+pub record IsOutDown (h : Handing) (e : Rules) (b : Block) (s : State) (cells : Cells) : Type 0 where
+  pub is_set : is_open s ≡ true
+  pub some : 1 ≤ b.len
+  pub fits : h.fits b ≡ true
+  pub below : e.is_out (h.down b) (child s 0) cells ≡ true
+
+out-parts : (b : Block) (s : State) (f x : Bool) → ((is_open s && nat_le 1 b.len) && (f && x)) ≡ true → (is_open s ≡ true) × (1 ≤ b.len) × (f ≡ true) × (x ≡ true)
+out-parts b s f x o =
+    let l : nat_le 1 b.len ≡ true = and-snd (is_open s) (nat_le 1 b.len) (and-fst (is_open s && nat_le 1 b.len) (f && x) o) in
+    let y = and-snd (is_open s && nat_le 1 b.len) (f && x) o in
+    (and-fst (is_open s) (nat_le 1 b.len) (and-fst (is_open s && nat_le 1 b.len) (f && x) o), grind (arith, nat_tests), and-fst f x y, and-snd f x y)
+
+pub out-hand : (h : Handing) (e : Rules) (b : Block) (s : State) (cells : Cells) → (handing_rules h e).is_out b s cells ≡ true → IsOutDown h e b s cells
+unfolding handing_rules
+out-hand h e b s cells o = let x = out-parts b s (h.fits b) (e.is_out (h.down b) (child s 0) cells) o in record { is_set = x.0; some = x.1; fits = x.2; below = x.3 }
+
+pub hand-out : (h : Handing) (e : Rules) (b : Block) (s : State) (cells : Cells) → IsOutDown h e b s cells → (handing_rules h e).is_out b s cells ≡ true
+unfolding handing_rules
+hand-out h e b s cells o = let l : nat_le 1 b.len ≡ true = grind (arith, nat_tests, o.some) in and_from _ _ (and_from _ _ o.is_set l) (and_from _ _ o.fits o.below)
+
+-- ---- extents
+
+pub hand-seen : (h : Handing) (e : Rules) (b : Block) (s : State) → h.fits b ≡ true → (handing_rules h e).extent b s ≡ e.extent (h.down b) (child s 0)
+unfolding handing_rules
+hand-seen h e b s f = ap (λ x. cond x (e.extent (h.down b) (child s 0)) no_block) f
+
+pub hand-apart : (h : Handing) (e : Rules) (s : State) (b c : Block) → h.fits b ≡ true → h.fits c ≡ true → AreApart e (child s 0) (h.down b) (h.down c) → AreApart (handing_rules h e) s b c
+hand-apart h e s b c f g a = record { either = rw (hand-seen h e b s f, hand-seen h e c s g) a.either }
+
+pub apart-hand : (h : Handing) (e : Rules) (s : State) (b c : Block) → h.fits b ≡ true → h.fits c ≡ true → AreApart (handing_rules h e) s b c → AreApart e (child s 0) (h.down b) (h.down c)
+apart-hand h e s b c f g a = record { either = rw (hand-seen h e b s f, hand-seen h e c s g) at a.either }
+
+-- ---- a request
+
+hand-serves : (h : Handing) (e : Rules) (own own' : Own) (t : State) (cells : Cells) (n : ℕ) (r : After (Option Placed)) → HandsDown h e → 1 ≤ n → h.passes own' ≡ true → IsGood e t cells (h.asked n) r
+    → IsGood (handing_rules h e) (open_with own (one_child t)) cells n (after (option_map (from_child (h.shown n) 0) r.answer) (open_with own' (one_child r.state)) r.cells)
+unfolding handing_rules
+hand-serves h e own own' t cells n r w l p g =
+    let old = open_with own (one_child t) in
+    let new = open_with own' (one_child r.state) in
+    let back = λ (q : Placed) (x : IsShown 0 (h.shown n) r.answer q). w.shown n x.below.block (g.len x.below x.answered) in
+    let len = λ (q : Placed) (x : IsShown 0 (h.shown n) r.answer q). let y : q.block.len ≡ n = ap (λ (b : Block). b.len) x.block ∙ (back q x).len in y in
+    let fits = λ (q : Placed) (x : IsShown 0 (h.shown n) r.answer q). let y : h.fits q.block ≡ true = ap h.fits x.block ∙ (back q x).fits in y in
+    let seen = λ (q : Placed) (x : IsShown 0 (h.shown n) r.answer q). let y : h.down q.block ≡ x.below.block = ap h.down x.block ∙ (back q x).back in y in
+    record {
+      is_set = refl;
+      settled = hand-settles h e own' r.state r.cells p g.is_set g.settled;
+      extents = λ b. ap (λ x. cond (h.fits b) x no_block) (g.extents (h.down b));
+      stays = λ b o. let x = out-hand h e b old cells o in hand-out h e b new r.cells (record { is_set = refl; some = x.some; fits = x.fits; below = g.stays (h.down b) x.below });
+      len = λ q z. len q (shown-of 0 (h.shown n) r.answer q z);
+      out = λ q z.
+          let x = shown-of 0 (h.shown n) r.answer q z in
+          let k = len q x in
+          hand-out h e q.block new r.cells (record { is_set = refl; some = omega arith; fits = fits q x; below = rw (seen q x) (g.out x.below x.answered) });
+      fresh = λ q z b o.
+          let x = shown-of 0 (h.shown n) r.answer q z in
+          let y = out-hand h e b old cells o in
+          hand-apart h e old q.block b (fits q x) y.fits (subst (λ c. AreApart e t c (h.down b)) (sym (seen q x)) (g.fresh x.below x.answered (h.down b) y.below));
+    }
+
+hand-requested : (h : Handing) (e : Rules) (n : ℕ) (own : Own) (t : State) (cells : Cells) (empty goes : Bool) → nat_eq n 0 ≡ empty → (nat_le n limit && h.admits n own) ≡ goes → HandsDown h e
+    → h.passes own ≡ true → is_open t ≡ true → IsSettled e t cells → IsGood e t cells (h.asked n) (e.allocate (h.asked n) t cells)
+    → IsGood (handing_rules h e) (open_with own (one_child t)) cells n (hand_request h empty goes n (e.allocate (h.asked n)) (open_with own (one_child t)) cells)
+unfolding handing_rules
+hand-requested h e n own t cells true goes q x w p o z g = refuse-good (handing_rules h e) n (open_with own (one_child t)) cells refl (hand-settles h e own t cells p o z)
+hand-requested h e n own t cells false true q x w p o z g =
+    let r = e.allocate (h.asked n) t cells in
+    let ok = is_some (option_map (from_child (h.shown n) 0) r.answer) in
+    hand-serves h e own (h.allocated ok n own) t cells n r w (grind (arith, nat_tests)) (w.in_order.allocated ok n own p (λ k. and-snd (nat_le n limit) (h.admits n own) x)) g
+hand-requested h e n own t cells false false q x w p o z g =
+    hand-serves h e own (h.allocated false n own) t cells n (refuse t cells) w (grind (arith, nat_tests)) (w.in_order.allocated false n own p (λ k. absurd (cc))) (refuse-good e (h.asked n) t cells o z)
+
+hand-good : (h : Handing) (e : Rules) → HandsDown h e → Good e → Good (handing_rules h e)
+unfolding handing_rules
+hand-good h e w law n s cells o z =
+    let f = handing_rules h e in
+    let x = hand-opened h e s cells o z in
+    subst (λ s. IsGood f s cells n (f.allocate n s cells)) (sym x.form)
+    (hand-requested h e n (own_of s) (child s 0) cells _ _ refl refl w x.own x.parent x.below (law (h.asked n) (child s 0) cells x.parent x.below))
+
+-- ---- a block is given back
+
+hand-taken_back : (h : Handing) (e : Rules) (own own' : Own) (t : State) (cells : Cells) (b : Block) (r : After Bool) → h.passes own' ≡ true → h.fits b ≡ true → IsFreed e t cells (h.down b) r
+    → IsFreed (handing_rules h e) (open_with own (one_child t)) cells b (after r.answer (open_with own' (one_child r.state)) r.cells)
+unfolding handing_rules
+hand-taken_back h e own own' t cells b r p f g =
+    let old = open_with own (one_child t) in
+    let new = open_with own' (one_child r.state) in
+    record {
+      is_set = refl;
+      settled = hand-settles h e own' r.state r.cells p g.is_set g.settled;
+      extents = λ c. ap (λ x. cond (h.fits c) x no_block) (g.extents (h.down c));
+      stays = λ c o a.
+          let x = out-hand h e c old cells o in
+          hand-out h e c new r.cells (record { is_set = refl; some = x.some; fits = x.fits; below = g.stays (h.down c) x.below (apart-hand h e old b c f x.fits a) });
+      table = λ c. g.table c;
+    }
+
+hand-freed : (h : Handing) (e : Rules) → HandsDown h e → Freeing e → Freeing (handing_rules h e)
+unfolding handing_rules
+hand-freed h e w law b s cells o z x =
+    let f = handing_rules h e in
+    let y = hand-opened h e s cells o z in
+    let v = out-hand h e b s cells x in
+    let r = e.deallocate (h.down b) (child s 0) cells in
+    subst (λ s. IsFreed f s cells b (f.deallocate b s cells)) (sym y.form)
+    (hand-taken_back h e (own_of s) (h.deallocated r.answer b (own_of s)) (child s 0) cells b r (w.in_order.deallocated r.answer b (own_of s) y.own) v.fits (law (h.down b) (child s 0) cells y.parent y.below v.below))
+
+-- ---- a block grows
+
+-- what the parent takes is taken by the leaves, which are the same
+pub hand-taken : (h : Handing) (e : Rules) (old new : Cells) → OnlyOwnCells e old new → OnlyOwnCells (handing_rules h e) old new
+unfolding handing_rules
+hand-taken h e old new g = record { count = g.count; each = g.each }
+
+-- the parent grew the block as it sees it, or each stayed as it was
+hand-longer : (h : Handing) (e : Rules) (own own' : Own) (t : State) (cells : Cells) (b : Block) (delta d : ℕ) (r : After Bool) → h.passes own' ≡ true → IsOutDown h e b (open_with own (one_child t)) cells
+    → h.fits (longer_if r.answer delta b) ≡ true → h.down (longer_if r.answer delta b) ≡ longer_if r.answer d (h.down b) → IsGrown e t cells (h.down b) d r
+    → IsGrown (handing_rules h e) (open_with own (one_child t)) cells b delta (after r.answer (open_with own' (one_child r.state)) r.cells)
+unfolding handing_rules
+hand-longer h e own own' t cells b delta d r p x f same g =
+    let old = open_with own (one_child t) in
+    let new = open_with own' (one_child r.state) in
+    let grown = longer_if r.answer delta b in
+    record {
+      is_set = refl;
+      settled = hand-settles h e own' r.state r.cells p g.is_set g.settled;
+      extents = λ c. ap (λ x. cond (h.fits c) x no_block) (g.extents (h.down c));
+      stays = λ c o a.
+          let z = out-hand h e c old cells o in
+          hand-out h e c new r.cells (record { is_set = refl; some = z.some; fits = z.fits; below = g.stays (h.down c) z.below (λ q. apart-hand h e old b c x.fits z.fits (a q)) });
+      out = hand-out h e grown new r.cells (record { is_set = refl; some = longer-some r.answer delta b x.some; fits = f; below = subst (λ k. e.is_out k r.state r.cells ≡ true) (sym same) g.out });
+      fresh = λ c o a.
+          let z = out-hand h e c old cells o in
+          hand-apart h e old grown c f z.fits (subst (λ k. AreApart e t k (h.down c)) (sym same) (g.fresh (h.down c) z.below (apart-hand h e old b c x.fits z.fits a)));
+      table = hand-taken h e cells r.cells g.table;
+    }
+
+longer-fits : (h : Handing) (e : Rules) → HandsDown h e → (q : Bool) (delta : ℕ) (b : Block) → h.fits b ≡ true → h.fits (longer_if q delta b) ≡ true
+longer-fits h e w true delta b f = (w.longer b delta f).fits
+longer-fits h e w false delta b f = f
+
+longer-down : (h : Handing) (e : Rules) → HandsDown h e → (q : Bool) (delta : ℕ) (b : Block) → h.fits b ≡ true → h.down (longer_if q delta b) ≡ longer_if q (h.asked (b.len + delta) - h.asked b.len) (h.down b)
+longer-down h e w true delta b f = (w.longer b delta f).down
+longer-down h e w false delta b f = refl
+
+hand-expansion : (h : Handing) (e : Rules) (own : Own) (t : State) (cells : Cells) (b : Block) (delta : ℕ) (none goes enough : Bool) → nat_eq delta 0 ≡ none → (nat_le (b.len + delta) limit && h.admits delta own) ≡ goes → nat_eq (h.asked b.len) (h.asked (b.len + delta)) ≡ enough
+    → HandsDown h e → h.passes own ≡ true → is_open t ≡ true → IsSettled e t cells → Growing e → IsOutDown h e b (open_with own (one_child t)) cells
+    → IsGrown (handing_rules h e) (open_with own (one_child t)) cells b delta
+    (hand_expansion h none goes enough delta (change_if h.expands (e.expand (h.asked (b.len + delta) - h.asked b.len))) b (h.down b) (open_with own (one_child t)) cells)
+unfolding handing_rules
+hand-expansion h e own t cells b delta true goes enough z a q w p o s law x =
+    by-nothing (handing_rules h e) (open_with own (one_child t)) cells b delta z refl (hand-settles h e own t cells p o s) (hand-out h e b (open_with own (one_child t)) cells x)
+hand-expansion h e own t cells b delta false false enough z a q w p o s law x =
+    let d = h.asked (b.len + delta) - h.asked b.len in
+    hand-longer h e own (h.expanded false delta b own) t cells b delta d (after false t cells) (w.in_order.expanded false delta b own p (λ k. absurd (cc))) x x.fits refl (kept-short e t cells (h.down b) d o s x.below)
+hand-expansion h e own t cells b delta false true true z a q w p o s law x =
+    let d = h.asked (b.len + delta) - h.asked b.len in
+    let k : nat_eq d 0 ≡ true = grind (arith, nat_tests) in
+    hand-longer h e own (h.expanded true delta b own) t cells b delta d (after true t cells) (w.in_order.expanded true delta b own p (λ k. and-snd (nat_le (b.len + delta) limit) (h.admits delta own) a)) x (longer-fits h e w true delta b x.fits) (longer-down h e w true delta b x.fits)
+    (by-nothing e t cells (h.down b) d k o s x.below)
+hand-expansion h e own t cells b delta false true false z a q w p o s law x =
+    let d = h.asked (b.len + delta) - h.asked b.len in
+    let r = change_if h.expands (e.expand d) (h.down b) t cells in
+    hand-longer h e own (h.expanded r.answer delta b own) t cells b delta d r (w.in_order.expanded r.answer delta b own p (λ k. and-snd (nat_le (b.len + delta) limit) (h.admits delta own) a)) x (longer-fits h e w r.answer delta b x.fits) (longer-down h e w r.answer delta b x.fits)
+    (offered-grown e h.expands (e.expand d) d (h.down b) t cells o s x.below (law d (h.down b) t cells o s x.below))
+
+hand-grown : (h : Handing) (e : Rules) → HandsDown h e → Growing e → Growing (handing_rules h e)
+unfolding handing_rules
+hand-grown h e w law delta b s cells o z x =
+    let f = handing_rules h e in
+    let y = hand-opened h e s cells o z in
+    subst (λ s. f.is_out b s cells ≡ true → IsGrown f s cells b delta (f.expand delta b s cells)) (sym y.form)
+    (λ x. hand-expansion h e (own_of s) (child s 0) cells b delta _ _ _ refl refl refl w y.own y.parent y.below law (out-hand h e b (open_with (own_of s) (one_child (child s 0))) cells x)) x
+
+-- ---- all blocks are taken back
+
+hand-emptied : (h : Handing) (e : Rules) → HandsDown h e → Emptying e → Emptying (handing_rules h e)
+unfolding handing_rules
+hand-emptied h e w law s cells o z =
+    let f = handing_rules h e in
+    let y = hand-opened h e s cells o z in
+    let g = law (child s 0) cells y.parent y.below in
+    let r = e.deallocate_all (child s 0) cells in
+    let new = open_with (h.all_deallocated (own_of s)) (one_child r.state) in
+    subst (λ s. IsEmptied f cells (f.deallocate_all s cells)) (sym y.form)
+    (record {
+      is_set = refl;
+      settled = hand-settles h e (h.all_deallocated (own_of s)) r.state r.cells (w.in_order.all_deallocated (own_of s) y.own) g.is_set g.settled;
+      none = λ b x. g.none (h.down b) (out-hand h e b new r.cells x).below;
+      table = λ c. g.table c;
+    })
+
+-- ---- places and tags
+
+kept-below : (h : Handing) (e : Rules) (old new : Cells) → TagsKept (handing_rules h e) old new → TagsKept e old new
+unfolding handing_rules
+kept-below h e old new k = record { at = k.at; back = k.back }
+
+hand-covers : (h : Handing) (e : Rules) → HandsDown h e → Covering e → Covering (handing_rules h e)
+unfolding handing_rules
+hand-covers h e w law b s cells z o =
+    let x = out-hand h e b s cells o in
+    let r = hand-opened h e s cells x.is_set z in
+    let c = law (h.down b) (child s 0) cells r.below x.below in
+    let v = w.wider b x.fits in
+    let q = hand-seen h e b s x.fits in
+    record { some = rw q c.some; from = rw q (omega (arith, c.from, v.from)); upto = rw q (omega (arith, c.upto, v.upto)); leaf = rw q c.leaf }
+
+hand-out_tags : (h : Handing) (e : Rules) → OutTags e → OutTags (handing_rules h e)
+hand-out_tags h e law b s old new k o =
+    let x = out-hand h e b s old o in
+    hand-out h e b s new (record { is_set = x.is_set; some = x.some; fits = x.fits; below = law (h.down b) (child s 0) old new (kept-below h e old new k) x.below })
+
+hand-settled_tags : (h : Handing) (e : Rules) → HasSomeTags e → SettledTags e → SettledTags (handing_rules h e)
+unfolding handing_rules
+hand-settled_tags h e t law s old new k z =
+    let v = kept-below h e old new k in
+    settled-moved e s old new (hand_settled h e s old) (hand_settled h e s new) t v
+    (λ o y. let x = hand-parts h e s old y in
+    subst (λ u. hand_settled h e u new ≡ true) (sym x.form) (hand-settles h e (own_of s) (child s 0) new x.own x.parent (law (child s 0) old new v x.below))) z
+
+-- a block whose bytes lie in cells of the leaves has a place and a length that each layer may see
+pub covered-plausible : (e : Rules) (b : Block) (s : State) (cells : Cells) → HasSomeTags e → length cells.tags ≤ most_cells → 1 ≤ b.len → Covers e b s cells → is_plausible b ≡ true
+covered-plausible e b s cells t m l c =
+    let last = end_of b - 1 in
+    let tag = t.least (get_or cells.tags (last / 64) 0) (c.leaf last (omega (arith, c.from)) (omega (arith, c.upto))) in
+    let r = tag-in_range cells.tags (last / 64) tag in
+    let q : end_of b ≤ 64 * most_cells = omega arith in
+    grind (arith, nat_tests)
+
+pub hand-some_tags : (h : Handing) (e : Rules) → HasSomeTags e → HasSomeTags (handing_rules h e)
+unfolding handing_rules
+hand-some_tags h e t = record { least = t.least }
+
+hand-routed : (h : Handing) (e : Rules) → HandsDown h e → HasSomeTags e → Covering e → Routing e → Routing (handing_rules h e)
+unfolding handing_rules
+hand-routed h e w t cover law b s cells m z o =
+    let f = handing_rules h e in
+    let x = out-hand h e b s cells o in
+    let r = hand-opened h e s cells x.is_set z in
+    and_from _ _ (covered-plausible f b s cells (hand-some_tags h e t) m x.some (hand-covers h e w cover b s cells z o)) (and_from _ _ x.fits (law (h.down b) (child s 0) cells m r.below x.below))
+
+hand-aligned : (h : Handing) (e : Rules) → HandsDown h e → Aligning e → Aligning (handing_rules h e)
+unfolding handing_rules
+hand-aligned h e w law b s cells z o =
+    let x = out-hand h e b s cells o in
+    let r = hand-opened h e s cells x.is_set z in
+    w.tells.shown_aligned b x.fits (law (h.down b) (child s 0) cells r.below x.below)
+
+-- ---- opening
+
+pub if-opens : (x o : Opening) (b : Bool) → elim b as (λ _. Opening) [ true ↦ x | false ↦ Err 0 ] ≡ o → ((k : ℕ) → o ≡ Err k → ⊥) → x ≡ o
+if-opens x o true e n = e
+if-opens x o false e n = absurd (n 0 (sym e))
+
+hand-opens : (h : Handing) (e : Rules) → HandsDown h e → OpennessLaws e → Opens e → Opens (handing_rules h e)
+unfolding handing_rules
+hand-opens h e w stays law need cells o n q =
+    let x = if-opens (open_parent h.first (e.set_up (h.need need) cells)) (Ok o) (h.opens_for need) q (λ k z. absurd (cc)) in
+    let y = parent-ok h.first (e.set_up (h.need need) cells) o x in
+    subst (λ (o : Opened). IsSettled (handing_rules h e) o.state o.cells) y.2
+    (hand-settles h e h.first y.0.state y.0.cells w.in_order.first (stays.set_up (h.need need) cells y.0 y.1) (law (h.need need) cells y.0 n y.1))
+
+-- ---- bytes
+
+-- bytes of the leaves stay, and those round a block are of the leaves
+own-round : (h : Handing) (e : Rules) (t : State) (cells : Cells) (old new : List ℕ) (c : Block) → Covers e (h.down c) t cells → OwnKept e cells old new → RoundKept c (h.down c) old new
+own-round h e t cells old new c d k = record { length_same = k.length_same; at = λ j a b r. k.at j (d.leaf j (omega (arith, d.from)) (omega (arith, d.upto))) }
+
+-- a test of the bytes round a block, and one of the parent, after a change that both stay through
+both-kept : (a b x y : Bool) → (a ≡ true → b ≡ true) → (x ≡ true → y ≡ true) → (a && x) ≡ true → (b && y) ≡ true
+both-kept a b x y f g z = and_from _ _ (f (and-fst a x z)) (g (and-snd a x z))
+
+hand-own : (h : Handing) (e : Rules) → HandsDown h e → Covering e → OwnFraming e → OwnFraming (handing_rules h e)
+unfolding handing_rules
+hand-own h e w cover law closed_fields old new cells z i k =
+    let none = λ (c : Block) (o : (handing_rules h e).is_out c ((handing_rules h e).read closed_fields old) cells ≡ true). let u = (out-hand h e c ((handing_rules h e).read closed_fields old) cells o).is_set in let x : ⊥ = cc in x in
+    record { state = refl; image = refl; clean = λ c o y x. absurd (none c o); marked = λ c o y x. absurd (none c o) }
+hand-own h e w cover law (open_fields kept fss) old new cells z i k =
+    let s = (handing_rules h e).read (open_fields kept fss) old in
+    let t = e.read (nth_fields fss 0) old in
+    let p = hand-parts h e s cells z in
+    let v : OwnKept e cells old new = record { length_same = k.length_same; at = k.at } in
+    let f = law (nth_fields fss 0) old new cells p.below i v in
+    let round = λ (c : Block) (u : IsOutDown h e c s cells). own-round h e t cells old new c (cover (h.down c) t cells p.below u.below) v in
+    record {
+      state = ap (λ t. open_with (h.kept kept) (one_child t)) f.state;
+      image = f.image;
+      clean = λ c o y x.
+          let u = out-hand h e c s cells o in
+          both-kept (h.clean c old) (h.clean c new) (e.is_clean (h.down c) t old) (e.is_clean (h.down c) t new) (w.round.clean c old new u.fits (round c u)) (f.clean (h.down c) u.below tt) x;
+      marked = λ c o y x.
+          let u = out-hand h e c s cells o in
+          both-kept (h.marked c old) (h.marked c new) (e.is_clean (h.down c) t old) (e.is_clean (h.down c) t new) (w.round.marked c old new u.fits (round c u)) (f.clean (h.down c) u.below tt) x;
+    }
+
+order : (x y : Block) → is_apart x y ≡ true → (end_of x ≤ y.place) ⊎ (end_of y ≤ x.place)
+order x y h = grind (arith, nat_tests)
+
+-- a write into a block keeps the bytes round it, and round each block that is apart
+round-kept : (h : Handing) (e : Rules) (t : State) (cells : Cells) (old new : List ℕ) (b c : Block) → HandsDown h e → Covering e → IsSettled e t cells → h.fits b ≡ true → e.is_out (h.down b) t cells ≡ true → e.is_out (h.down c) t cells ≡ true
+    → (c ≡ b) ⊎ AreApart e t (h.down b) (h.down c) → ChangesInside b old new → RoundKept c (h.down c) old new
+round-kept h e t cells old new b c w cover z f ob oc (inl q) k =
+    let p : c.place ≡ b.place = ap (λ (b : Block). b.place) q in
+    let l : c.len ≡ b.len = ap (λ (b : Block). b.len) q in
+    record { length_same = k.length_same; at = λ i x y r. elim r [ inl u ↦ k.below i (omega arith) | inr u ↦ k.above i (omega arith) ] }
+round-kept h e t cells old new b c w cover z f ob oc (inr a) k =
+    let x = cover (h.down b) t cells z ob in
+    let y = cover (h.down c) t cells z oc in
+    let v = w.wider b f in
+    let d = order (e.extent (h.down b) t) (e.extent (h.down c) t) a.either in
+    record { length_same = k.length_same; at = λ i m n r. elim d [ inl u ↦ k.above i (omega (arith, x.upto, y.from, v.upto)) | inr u ↦ k.below i (omega (arith, x.from, y.upto, v.from)) ] }
+
+hand-framed : (h : Handing) (e : Rules) → HandsDown h e → Covering e → Framing e → Framing (handing_rules h e)
+unfolding handing_rules
+hand-framed h e w cover law closed_fields old new cells b z i o k = absurd (let x = out-hand h e b ((handing_rules h e).read closed_fields old) cells o in let y = x.is_set in cc)
+hand-framed h e w cover law (open_fields kept fss) old new cells b z i o k =
+    let s = (handing_rules h e).read (open_fields kept fss) old in
+    let t = e.read (nth_fields fss 0) old in
+    let p = hand-parts h e s cells z in
+    let x = out-hand h e b s cells o in
+    let v = w.wider b x.fits in
+    let f = law (nth_fields fss 0) old new cells (h.down b) p.below i x.below (inside-wider b (h.down b) old new v.from v.upto k) in
+    let apart = λ (c : Block) (u : IsOutDown h e c s cells) (y : IsSameOrApart (handing_rules h e) s b c).
+    let r : (c ≡ b) ⊎ AreApart e t (h.down b) (h.down c) = elim y [ inl q ↦ inl q | inr m ↦ inr (apart-hand h e s b c x.fits u.fits m) ] in r in
+    let same = λ (c : Block) (u : IsOutDown h e c s cells) (y : IsSameOrApart (handing_rules h e) s b c).
+    let r : IsSameOrApart e t (h.down b) (h.down c) = elim (apart c u y) [ inl q ↦ inl (ap h.down q) | inr m ↦ inr m ] in r in
+    let round = λ (c : Block) (u : IsOutDown h e c s cells) (y : IsSameOrApart (handing_rules h e) s b c).
+    round-kept h e t cells old new b c w cover p.below x.fits x.below u.below (apart c u y) k in
+    record {
+      state = ap (λ t. open_with (h.kept kept) (one_child t)) f.state;
+      image = f.image;
+      clean = λ c od y r.
+          let u = out-hand h e c s cells od in
+          both-kept (h.clean c old) (h.clean c new) (e.is_clean (h.down c) t old) (e.is_clean (h.down c) t new) (w.round.clean c old new u.fits (round c u y)) (f.clean (h.down c) u.below (same c u y)) r;
+      marked = λ c od y r.
+          let u = out-hand h e c s cells od in
+          both-kept (h.marked c old) (h.marked c new) (e.is_clean (h.down c) t old) (e.is_clean (h.down c) t new) (w.round.marked c old new u.fits (round c u y)) (f.clean (h.down c) u.below (same c u y)) r;
+    }
+
+hand-marked : (h : Handing) (e : Rules) → HandsDown h e → (b : Block) (bytes : List ℕ) (x : Bool) → (h.clean b bytes && x) ≡ true → (h.marked b bytes && x) ≡ true
+hand-marked h e w b bytes x z = both-kept (h.clean b bytes) (h.marked b bytes) x x (w.round.clean_is_marked b bytes) (λ y. y) z
+
+-- ---- the families
+
+pub hand-keeping : (h : Handing) (e : Rules) → HandsDown h e → KeepingLaws e → KeepingLaws (handing_rules h e)
+unfolding handing_rules
+hand-keeping h e w p = record { out_open = λ b s cells o. some-open (is_open s) _ _ o; out_some = λ b s cells o. (out-hand h e b s cells o).some; good = hand-good h e w p.good; freed = hand-freed h e w p.freed; grown = hand-grown h e w p.grown; emptied = hand-emptied h e w p.emptied }
+
+pub hand-placing : (h : Handing) (e : Rules) → HandsDown h e → HasSomeTags e → PlacingLaws e → PlacingLaws (handing_rules h e)
+hand-placing h e w t p =
+    record {
+      covers = hand-covers h e w p.covers;
+      routed = hand-routed h e w t p.covers p.routed;
+      aligned = hand-aligned h e w p.aligned;
+      out_tags = hand-out_tags h e p.out_tags;
+      settled_tags = hand-settled_tags h e t p.settled_tags;
+    }
+
+pub hand-framing : (h : Handing) (e : Rules) → HandsDown h e → PlacingLaws e → FramingLaws e → FramingLaws (handing_rules h e)
+unfolding handing_rules
+hand-framing h e w c p =
+    record {
+      own_framed = hand-own h e w c.covers p.own_framed;
+      framed = hand-framed h e w c.covers p.framed;
+      marked = λ b s bytes z. hand-marked h e w b bytes (e.is_clean (h.down b) (child s 0) bytes) z;
+    }
+
+pub hand-opening : (h : Handing) (e : Rules) → HandsDown h e → OpennessLaws e → OpeningLaws e → OpeningLaws (handing_rules h e)
+unfolding handing_rules
+hand-opening h e w o p = record { closed_settled = λ cells. refl; closed_image = λ bytes. refl; opens = hand-opens h e w o p.opens }
+
+pub hand-lawful : HandingIsLawful
+hand-lawful h e w t g p =
+    record {
+      keeping = hand-keeping h e w p.keeping;
+      placing = hand-placing h e w t p.placing;
+      framing = hand-framing h e w p.placing p.framing;
+      opening = hand-opening h e w g.openness p.opening;
+    }

@@ -1,0 +1,16 @@
+//! The kits: what a form has that is made with one.
+
+ghost use Rattle.layer_laws.specs.HandsDown.{HandingIsRegular, HandingIsLawful};
+ghost use Rattle.layer_laws.specs.Chooses.{ChoosingIsRegular, ChoosingIsLawful};
+
+/// A form that hands each block down changed is regular over a regular parent, and lawful over one that is lawful too.
+pub fn handing_is_lawful()
+    ensures regular { HandingIsRegular }
+    ensures lawful { HandingIsLawful }
+{}
+
+/// A form that chooses a member by length is regular over regular members, and lawful over members that are lawful too.
+pub fn choosing_is_lawful()
+    ensures regular { ChoosingIsRegular }
+    ensures lawful { ChoosingIsLawful }
+{}

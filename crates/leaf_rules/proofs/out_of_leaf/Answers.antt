@@ -1,0 +1,5 @@
+use Rattle.leaf_rules.specs.MemLawful.{out_of_leaf}
+use Rattle.leaf_rules.proofs.out_of_leaf.Goals as goal
+
+pub returns : goal.returns
+returns c = out_of_leaf

@@ -1,0 +1,4 @@
+pub mod LeafMeanings
+pub mod MemLawful
+pub mod MemRegular
+pub mod MemRules

@@ -1,0 +1,5 @@
+use Rattle.list_rules.specs.ListOut.{out_of_list}
+use Rattle.list_rules.proofs.out_of_list.Goals as goal
+
+pub returns : goal.returns
+returns c = out_of_list

@@ -1,0 +1,21 @@
+//! The rules of a list of members, each set up when it is first needed, and their laws.
+#![tactic(auto)]
+
+ghost use Rattle.list_rules.specs.ListOrder.{NextMemberIsClosed};
+ghost use Rattle.list_rules.specs.ListOut.{OutOfList};
+ghost use Rattle.list_rules.specs.ListRegular.{ListIsRegular};
+
+/// A list of members that are regular is so too.
+pub fn list_is_regular()
+    ensures { ListIsRegular }
+{}
+
+/// A block is out exactly where it is out of the first open member, in the order of use, that holds it.
+pub fn out_of_list()
+    ensures { OutOfList }
+{}
+
+/// The member that a list sets up next is closed.
+pub fn next_member_is_closed()
+    ensures { NextMemberIsClosed }
+{}

@@ -1,3 +1,0 @@
-pub mod LeafForms
-pub mod LevelForms
-pub mod HalfForms

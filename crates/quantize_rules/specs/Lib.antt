@@ -1,0 +1,3 @@
+pub mod QuantizeLawful
+pub mod QuantizeMeanings
+pub mod QuantizeRules

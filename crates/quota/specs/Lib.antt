@@ -1,0 +1,3 @@
+pub mod QuotaMade
+pub mod QuotaModel
+pub mod QuotaProper

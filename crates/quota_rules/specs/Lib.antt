@@ -1,0 +1,3 @@
+pub mod QuotaLawful
+pub mod QuotaMeanings
+pub mod QuotaRules

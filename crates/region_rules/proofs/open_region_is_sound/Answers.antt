@@ -1,0 +1,5 @@
+use Rattle.region_rules.specs.RegionLawful.{open_region_is_sound}
+use Rattle.region_rules.proofs.open_region_is_sound.Goals as goal
+
+pub returns : goal.returns
+returns c = open_region_is_sound

@@ -1,0 +1,5 @@
+use Rattle.region_rules.specs.RegionLawful.{out_of_region}
+use Rattle.region_rules.proofs.out_of_region.Goals as goal
+
+pub returns : goal.returns
+returns c = out_of_region

@@ -1,0 +1,4 @@
+pub mod RegionLawful
+pub mod RegionMeanings
+pub mod RegionRegular
+pub mod RegionRules

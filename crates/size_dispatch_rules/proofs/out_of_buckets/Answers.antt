@@ -1,0 +1,5 @@
+use Rattle.size_dispatch_rules.specs.BucketsLawful.{out_of_buckets}
+use Rattle.size_dispatch_rules.proofs.out_of_buckets.Goals as goal
+
+pub returns : goal.returns
+returns c = out_of_buckets

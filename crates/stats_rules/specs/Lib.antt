@@ -1,0 +1,4 @@
+pub mod Counting
+pub mod StatsLawful
+pub mod StatsMeanings
+pub mod StatsRules
