@@ -9,15 +9,16 @@ use Rattle.layer_rules.specs.declared.Block.{Block}
 use Rattle.layer_rules.specs.Blocks.{block, with_len, end_of}
 use Rattle.layer_rules.specs.Testing.{are_bytes, is_word}
 use Rattle.layer_rules.specs.Rules.{Rules}
-use Rattle.layer_laws.specs.Lawful.{IsAlignment, TellingLaws}
-use Rattle.layer_laws.specs.HandsDown.{RoundKept, HandsDown}
+use Rattle.layer_laws.specs.Lawful.{IsAlignment, TellingLaws, UnrangedLaws}
+use Rattle.layer_laws.specs.HandsDown.{RoundKept, HandsDown, KeepsWhereRefused}
 use Rattle.layer_laws.specs.Basics.{and-fst, and-snd}
 use Rattle.layer_laws.specs.CellRooms.{multiple_of_multiple}
 use Rattle.layer_laws.specs.GoodSizes.{served-enough, unserved-above, power-alignment}
 use Rattle.layer_laws.specs.KeptBytes.{word-parts, word-test, word-kept, bytes-parts, bytes-test, bytes-kept}
 use Rattle.layer_laws.specs.Multiples.{multiple-sum, min-is, min-divides}
-use Rattle.layer_laws.specs.HandingLawful.{out-hand, hand-out, hand-lawful}
-use Rattle.layer_laws.specs.HandingRegular.{hand-regular}
+use Rattle.layer_laws.specs.HandingLawful.{hand-lawful}
+use Rattle.layer_laws.specs.HandingParts.{out-hand, hand-out}
+use Rattle.layer_laws.specs.HandingRegular.{hand-regular, hand-unranged}
 use Rattle.affix_rules.specs.AffixRules.{affix_down, alignment_behind, suffix_byte, has_length, has_affixes, affix_handing, affix_rules}
 use Rattle.affix_rules.specs.AffixMeanings.{AffixIsRegular, AffixIsLawful, AffixHandsAllDown, OutOfAffix, HasLengthBefore, LengthStandsBefore, IsAffixClean, AffixesByBytes}
 
@@ -110,6 +111,18 @@ fits-place prefix b f = grind (arith, nat_tests)
 place-fits : (prefix : ℕ) (b : Block) → prefix ≤ b.place → nat_le prefix b.place ≡ true
 place-fits prefix b l = grind (arith, nat_tests)
 
+-- it keeps no numbers
+affix-keeps : (prefix suffix : ℕ) (e : Rules) → KeepsWhereRefused (affix_handing prefix suffix e)
+affix-keeps prefix suffix e = record {
+  allocated = λ n own. refl;
+  expanded = λ delta b own. refl;
+  reallocated = λ n b own. refl;
+  owned = λ own. refl;
+  owned_steady = λ own. refl;
+  owned_unread = λ own. refl;
+  admits = λ n x y q. refl;
+}
+
 pub affix-hands : (prefix suffix : ℕ) (e : Rules) → TellingLaws e → HandsDown (affix_handing prefix suffix e) e
 affix-hands prefix suffix e t =
     record {
@@ -117,6 +130,7 @@ affix-hands prefix suffix e t =
       wider = λ b f. let l = fits-place prefix b f in record { from = omega arith; upto = omega arith };
       longer = λ b delta f. record { fits = f; down = affix-longer prefix suffix b delta };
       asked_some = λ n l. omega arith;
+      placed = λ a. absurd (cc);
       tells = record {
         enough = λ n. served-enough (λ m. e.good_alloc_size (m + prefix + suffix) - prefix - suffix) n (let g = t.enough (n + prefix + suffix) in omega arith);
         of_nothing = refl;
@@ -130,22 +144,22 @@ affix-hands prefix suffix e t =
         expanded = λ ok delta b own p a. p;
         deallocated = λ ok b own p. p;
         all_deallocated = λ own p. p;
+        reallocated = λ n b r own p. p;
+        owned = λ own p. p;
       };
-      refused = record {
-        allocated = λ n own. refl;
-        expanded = λ delta b own. refl;
-        reallocated = λ n b own. refl;
-        owned = λ own. refl;
-        owned_steady = λ own. refl;
-        owned_unread = λ own. refl;
-        admits = λ n x y q. refl;
-      };
+      refused = affix-keeps prefix suffix e;
       round = record {
         clean = λ b old new f k z. affixes-kept prefix suffix b old new (fits-place prefix b f) k z;
         marked = λ b old new f k z. length-kept prefix suffix b old new (nat_lt prefix 8) refl (fits-place prefix b f) k z;
         clean_is_marked = λ b bytes z. and-fst (has_length prefix b bytes) _ z;
       };
+      in_place = λ b n f q. absurd (cc);
+      one_place = λ b c f g q. let p = fits-place prefix b f in let r = fits-place prefix c g in omega arith;
     }
+
+pub affix-unranged : (prefix suffix : ℕ) (e : Rules) → UnrangedLaws e → UnrangedLaws (affix_rules prefix suffix e)
+unfolding affix_rules
+affix-unranged prefix suffix e g = hand-unranged (affix_handing prefix suffix e) e (affix-keeps prefix suffix e) g
 
 pub affix_is_regular : AffixIsRegular
 unfolding affix_rules

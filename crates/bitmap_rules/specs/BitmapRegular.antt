@@ -21,7 +21,7 @@ use Rattle.layer_rules.specs.Unread.{unread}
 use Rattle.layer_rules.specs.declared.Block.{Block}
 use Rattle.layer_laws.specs.ChunkLaws.{asked-keeps, child-own, chunk-sets}
 use Rattle.layer_laws.specs.GoodSizes.{power-alignment, served-enough, unserved-above, unserved-zero}
-use Rattle.layer_laws.specs.Lawful.{KeepsOnFalse, KeepsOnNone, KeptOnFalse, KeptOnNone, OnlyOwnCells, OpennessLaws, OwningLaws, ReadingLaws, RefusingLaws, TailLaws, TakingLaws, TellingLaws}
+use Rattle.layer_laws.specs.Lawful.{KeepsOnFalse, KeepsOnNone, KeptOnFalse, KeptOnNone, OnlyOwnCells, OpennessLaws, OwningLaws, ReadingLaws, RefusedLaws, RefusingLaws, TailLaws, TakingLaws, TellingLaws, UnrangedLaws}
 use Rattle.layer_laws.specs.Owners.{held-same, open-may_hold}
 use Rattle.layer_laws.specs.Reallocations.{keeps-asked_to_expand, keeps-asked_to_reallocate, keeps-general_reallocate}
 use Rattle.layer_laws.specs.Requests.{is_refusal, keeps-asked_for, none-asked_for}
@@ -30,7 +30,9 @@ use Rattle.layer_laws.specs.StayingOpen.{StaysOpen, StaysOpenBy, StayedOpen, ope
 use Rattle.layer_laws.specs.Takings.{TakesOwn, takes-asked_for, takes-wider, took-chunk}
 use Rattle.layer_laws.specs.Tests.{set-up-opens, takes-none}
 use Rattle.layer_laws.specs.Uncounting.{same-base, same-child, same-chunk, same-units}
+use Rattle.layer_laws.specs.Unranged.{regular-unranged, refused-refusing, unranged-regular}
 use Rattle.layer_laws.specs.Unreading.{unread-base, unread-chunk, unread-may_hold, unread-over_parent}
+use Rattle.layer_laws.specs.Paths.{along-at_chunk}
 use Rattle.bitmap_rules.specs.BitmapRules.{bitmap_aligned_allocate, bitmap_allocate, bitmap_chunk, bitmap_count, bitmap_deallocate, bitmap_expand, bitmap_opened, bitmap_place_at, bitmap_rules, bitmap_take, bitmap_with, free_place, further_units_free, read_bitmap, units_block}
 use Rattle.bitmap_rules.specs.BitmapMeanings.{BitmapIsRegular, IsBitmapSize}
 use Rattle.bitmap_rules.specs.BitmapParts.{bitmap-open_parts}
@@ -138,14 +140,14 @@ none-aligned : (unit n a : ℕ) (s : State) (cells : Cells) → is_refusal (bitm
 none-aligned unit n a s cells = none-take unit n (bitmap_place_at unit n (max a 16) s) s cells
 
 -- the parent's tails are free as long as the bitmap is sound
-parent-tails : (unit count : ℕ) (e : Rules) (s : State) (cells : Cells) → RefusingLaws e → TailLaws e → IsSettled (bitmap_rules unit count e) s cells → e.has_free_tails (child s 0) ≡ true
+parent-tails : (unit count : ℕ) (e : Rules) (s : State) (cells : Cells) → RefusedLaws e → TailLaws e → IsSettled (bitmap_rules unit count e) s cells → e.has_free_tails (child s 0) ≡ true
 parent-tails unit count e closed cells r t h = t.shut
 parent-tails unit count e (open_with own ss) cells r t h =
     r.free_tails (child (open_with own ss) 0) cells (bitmap-open_parts unit count e (open_with own ss) cells refl h).below
 
-bitmap-refusing : (unit count : ℕ) (e : Rules) → RefusingLaws e → TailLaws e → RefusingLaws (bitmap_rules unit count e)
+bitmap-refused : (unit count : ℕ) (e : Rules) → RefusedLaws e → TailLaws e → RefusedLaws (bitmap_rules unit count e)
 unfolding bitmap_rules
-bitmap-refusing unit count e r t =
+bitmap-refused unit count e r t =
     let allocates = λ (n : ℕ). keeps-asked_for n (bitmap_allocate unit n) (keeps-allocate unit n) in
     let expands = λ (d : ℕ). keeps-asked_to_expand d (bitmap_expand unit d) (keeps-expand unit d) in
     record {
@@ -155,14 +157,19 @@ bitmap-refusing unit count e r t =
       reallocate = λ n.
           keeps-asked_to_reallocate n (bitmap_deallocate unit) _
           (keeps-general_reallocate n all_offers (λ d. asked_to_expand d (bitmap_expand unit d)) (asked_for n (bitmap_allocate unit n)) (bitmap_deallocate unit) expands (allocates n));
-      none = λ n s cells h. none-asked_for n (bitmap_allocate unit n) s cells (has_no_run (ceil_div n unit) (units_of s)) (λ l m. none-allocate unit n s cells);
-      none_aligned = λ n a s cells. none-asked_for n (bitmap_aligned_allocate unit n a) s cells (is_none (bitmap_place_at unit n (max a 16) s)) (λ l m. none-aligned unit n a s cells);
       free_tails = λ s cells h. parent-tails unit count e s cells r t h;
       refuses_uncounted = λ n s u cells q. ap (λ us. over_limit_or n (has_no_run (ceil_div n unit) us)) (same-units s u q);
       refuses_aligned_uncounted = λ n a s u cells q.
           ap₂ (λ (base : ℕ) us. over_limit_or n (is_none (free_place unit n (max a 16) base us))) (same-base s u q) (same-units s u q);
       free_tails_uncounted = λ s u q. r.free_tails_uncounted (child s 0) (child u 0) (same-child s u 0 q);
     }
+
+bitmap-refusing : (unit count : ℕ) (e : Rules) → RefusedLaws (bitmap_rules unit count e) → RefusingLaws (bitmap_rules unit count e)
+unfolding bitmap_rules
+bitmap-refusing unit count e k =
+    refused-refusing (bitmap_rules unit count e) k
+    (λ n s cells h. none-asked_for n (bitmap_allocate unit n) s cells (has_no_run (ceil_div n unit) (units_of s)) (λ l m. none-allocate unit n s cells))
+    (λ n a s cells. none-asked_for n (bitmap_aligned_allocate unit n a) s cells (is_none (bitmap_place_at unit n (max a 16) s)) (λ l m. none-aligned unit n a s cells))
 
 -- ---- the parent's tails
 
@@ -234,6 +241,7 @@ bitmap-owning unit count e = record {
   holds_uncounted = λ b s t q.
       held-same b s t (lies_in b (units_block unit s)) (lies_in b (units_block unit t)) q
       (ap₂ (λ (p : ℕ) (c : Block). lies_in b (block p (unit * ((end_of c - p) / unit)))) (same-base s t q) (same-chunk s t q));
+  along = λ path possible b s. along-at_chunk path (may_hold b s && lies_in b (units_block unit s)) possible;
 }
 
 -- ---- taking
@@ -266,14 +274,21 @@ bitmap-taking unit count e t =
       deallocate_all_count = λ s cells. refl;
     }
 
--- over a regular parent
-pub bitmap_is_regular : BitmapIsRegular
-bitmap_is_regular unit count e k r = record {
-  telling = bitmap-telling unit count e k r.telling;
+-- ---- all of them
+
+-- whatever its numbers
+pub bitmap-unranged : (unit count : ℕ) (e : Rules) → UnrangedLaws e → UnrangedLaws (bitmap_rules unit count e)
+bitmap-unranged unit count e r = record {
   reading = bitmap-reading unit count e r.reading;
-  refusing = bitmap-refusing unit count e r.refusing r.tails;
+  refused = bitmap-refused unit count e r.refused r.tails;
   tails = bitmap-tails unit count e r.tails;
   openness = bitmap-openness unit count e;
   owning = bitmap-owning unit count e;
   taking = bitmap-taking unit count e r.taking;
 }
+
+-- over a regular parent
+pub bitmap_is_regular : BitmapIsRegular
+bitmap_is_regular unit count e k r =
+    let u = bitmap-unranged unit count e (regular-unranged e r) in
+    unranged-regular (bitmap_rules unit count e) u (bitmap-telling unit count e k r.telling) (bitmap-refusing unit count e u.refused)

@@ -1,6 +1,6 @@
 // The lower half of a composition, where the check of the upper half's users ends.
 use crate::{Leaf, Over4};
-use layer_core::{Block, Fact, Layer, Offers, Refused};
+use layer_core::{Asked, Block, Fact, Layer, Offers, Path, Refused};
 use space_core::Space;
 
 /// The lower four levels of a composition, and its end: no node, and no layer on a path. Each call does what
@@ -48,8 +48,36 @@ impl Layer for LowerHalf {
         self.root.allocate(space, n)
     }
 
+    fn aligned_allocate(&mut self, space: &mut Space, n: u64, a: u64) -> Option<Block> {
+        self.root.aligned_allocate(space, n, a)
+    }
+
+    fn expand(&mut self, space: &mut Space, b: &mut Block, delta: u64) -> bool {
+        self.root.expand(space, b, delta)
+    }
+
+    fn reallocate(&mut self, space: &mut Space, b: &mut Block, n: u64) -> bool {
+        self.root.reallocate(space, b, n)
+    }
+
     fn deallocate(&mut self, space: &mut Space, b: Block) -> bool {
         self.root.deallocate(space, b)
+    }
+
+    fn deallocate_all(&mut self, space: &mut Space) {
+        self.root.deallocate_all(space)
+    }
+
+    fn holds(&self, b: Block) -> bool {
+        self.root.holds(b)
+    }
+
+    fn owns(&mut self, b: Block) -> bool {
+        self.root.owns(b)
+    }
+
+    fn owns_at(&self, path: &Path, from: usize, b: Block) -> Asked {
+        self.root.owns_at(path, from, b)
     }
 
     fn extent(&self, b: Block) -> u64 {
@@ -58,6 +86,14 @@ impl Layer for LowerHalf {
 
     fn fact(&self, space: &Space, node: u32) -> Fact {
         self.root.fact(space, node)
+    }
+
+    fn state_len(&self, node: u32) -> u32 {
+        self.root.state_len(node)
+    }
+
+    fn state_number(&self, node: u32, k: u32) -> u64 {
+        self.root.state_number(node, k)
     }
 
     ghost made = { λ l. lower_made l };

@@ -1,5 +1,5 @@
 // The ends of a composition.
-use layer_core::{Block, Fact, Layer, Mem, NullLayer, Offers, Refused};
+use layer_core::{Asked, Block, Fact, Layer, Mem, NullLayer, Offers, Path, Refused};
 use space_core::Space;
 
 /// The end of a composition: a layer with no parent. Each call does what the layer inside does.
@@ -72,10 +72,59 @@ impl Layer for Leaf {
         }
     }
 
+    fn aligned_allocate(&mut self, space: &mut Space, n: u64, a: u64) -> Option<Block> {
+        match self {
+            Leaf::Null(layer) => layer.aligned_allocate(space, n, a),
+            Leaf::Mem(layer) => layer.aligned_allocate(space, n, a),
+        }
+    }
+
+    fn expand(&mut self, space: &mut Space, b: &mut Block, delta: u64) -> bool {
+        match self {
+            Leaf::Null(layer) => layer.expand(space, b, delta),
+            Leaf::Mem(layer) => layer.expand(space, b, delta),
+        }
+    }
+
+    fn reallocate(&mut self, space: &mut Space, b: &mut Block, n: u64) -> bool {
+        match self {
+            Leaf::Null(layer) => layer.reallocate(space, b, n),
+            Leaf::Mem(layer) => layer.reallocate(space, b, n),
+        }
+    }
+
     fn deallocate(&mut self, space: &mut Space, b: Block) -> bool {
         match self {
             Leaf::Null(layer) => layer.deallocate(space, b),
             Leaf::Mem(layer) => layer.deallocate(space, b),
+        }
+    }
+
+    fn deallocate_all(&mut self, space: &mut Space) {
+        match self {
+            Leaf::Null(layer) => layer.deallocate_all(space),
+            Leaf::Mem(layer) => layer.deallocate_all(space),
+        }
+    }
+
+    fn holds(&self, b: Block) -> bool {
+        match self {
+            Leaf::Null(layer) => layer.holds(b),
+            Leaf::Mem(layer) => layer.holds(b),
+        }
+    }
+
+    fn owns(&mut self, b: Block) -> bool {
+        match self {
+            Leaf::Null(layer) => layer.owns(b),
+            Leaf::Mem(layer) => layer.owns(b),
+        }
+    }
+
+    fn owns_at(&self, path: &Path, from: usize, b: Block) -> Asked {
+        match self {
+            Leaf::Null(layer) => layer.owns_at(path, from, b),
+            Leaf::Mem(layer) => layer.owns_at(path, from, b),
         }
     }
 
@@ -90,6 +139,20 @@ impl Layer for Leaf {
         match self {
             Leaf::Null(layer) => layer.fact(space, node),
             Leaf::Mem(layer) => layer.fact(space, node),
+        }
+    }
+
+    fn state_len(&self, node: u32) -> u32 {
+        match self {
+            Leaf::Null(layer) => layer.state_len(node),
+            Leaf::Mem(layer) => layer.state_len(node),
+        }
+    }
+
+    fn state_number(&self, node: u32, k: u32) -> u64 {
+        match self {
+            Leaf::Null(layer) => layer.state_number(node, k),
+            Leaf::Mem(layer) => layer.state_number(node, k),
         }
     }
 

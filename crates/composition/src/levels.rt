@@ -1,5 +1,5 @@
 // One level of a composition.
-use layer_core::{Block, Fact, Layer, Offers, Refused};
+use layer_core::{Asked, Block, Fact, Layer, Offers, Path, Refused};
 use region_block::Region;
 use space_core::Space;
 
@@ -74,10 +74,59 @@ impl<P: Layer> Layer for Over<P> {
         }
     }
 
+    fn aligned_allocate(&mut self, space: &mut Space, n: u64, a: u64) -> Option<Block> {
+        match self {
+            Over::Pass(parent) => parent.aligned_allocate(space, n, a),
+            Over::Region(layer) => layer.aligned_allocate(space, n, a),
+        }
+    }
+
+    fn expand(&mut self, space: &mut Space, b: &mut Block, delta: u64) -> bool {
+        match self {
+            Over::Pass(parent) => parent.expand(space, b, delta),
+            Over::Region(layer) => layer.expand(space, b, delta),
+        }
+    }
+
+    fn reallocate(&mut self, space: &mut Space, b: &mut Block, n: u64) -> bool {
+        match self {
+            Over::Pass(parent) => parent.reallocate(space, b, n),
+            Over::Region(layer) => layer.reallocate(space, b, n),
+        }
+    }
+
     fn deallocate(&mut self, space: &mut Space, b: Block) -> bool {
         match self {
             Over::Pass(parent) => parent.deallocate(space, b),
             Over::Region(layer) => layer.deallocate(space, b),
+        }
+    }
+
+    fn deallocate_all(&mut self, space: &mut Space) {
+        match self {
+            Over::Pass(parent) => parent.deallocate_all(space),
+            Over::Region(layer) => layer.deallocate_all(space),
+        }
+    }
+
+    fn holds(&self, b: Block) -> bool {
+        match self {
+            Over::Pass(parent) => parent.holds(b),
+            Over::Region(layer) => layer.holds(b),
+        }
+    }
+
+    fn owns(&mut self, b: Block) -> bool {
+        match self {
+            Over::Pass(parent) => parent.owns(b),
+            Over::Region(layer) => layer.owns(b),
+        }
+    }
+
+    fn owns_at(&self, path: &Path, from: usize, b: Block) -> Asked {
+        match self {
+            Over::Pass(parent) => parent.owns_at(path, from, b),
+            Over::Region(layer) => layer.owns_at(path, from, b),
         }
     }
 
@@ -92,6 +141,20 @@ impl<P: Layer> Layer for Over<P> {
         match self {
             Over::Pass(parent) => parent.fact(space, node),
             Over::Region(layer) => layer.fact(space, node),
+        }
+    }
+
+    fn state_len(&self, node: u32) -> u32 {
+        match self {
+            Over::Pass(parent) => parent.state_len(node),
+            Over::Region(layer) => layer.state_len(node),
+        }
+    }
+
+    fn state_number(&self, node: u32, k: u32) -> u64 {
+        match self {
+            Over::Pass(parent) => parent.state_number(node, k),
+            Over::Region(layer) => layer.state_number(node, k),
         }
     }
 

@@ -8,7 +8,7 @@ use Rattle.expr_reader.specs.Signatures.{takes, inner, after_number, after_choic
 use Rattle.expr_reader.specs.Tokens.{tokens}
 use Rattle.expr_reader.specs.Trees.{Tree, leaf, node, Args, last, number, choice, layer}
 use Rattle.expr_reader.specs.Grammar.{Fits, FitsIn, depth, greatest_depth}
-use Rattle.expr_reader.specs.Flaws.{heads, alignment, least_alignment, layer_alignment, needs, rules, gives, broken, head_places, first_place, layer_flaws, flaws, flaws_in, size, starts}
+use Rattle.expr_reader.specs.Flaws.{heads, alignment, least_alignment, word_alignment, needs, keeps_ranges, gives, broken, head_places, first_place, layer_flaws, flaws, flaws_in, size, starts}
 use Rattle.expr_reader.specs.Canonical.{word_text, choice_text, numeral, canonical, in_place, args_in_place}
 use Rattle.expr_reader.specs.Answers.{IsAccepted}
 use Rattle.expr_reader.specs.ShapeOf.{shape_of, shapes, layer_shape, leaf_count, leaf_count_in}
@@ -56,7 +56,7 @@ in_place-heads (layer e args) at = in_place-heads args (behind at (canonical e))
 mutual
   in_place-alignment : (e : Tree) (at : ℕ) → alignment (in_place at e) ≡ alignment e
   in_place-alignment (leaf old k) at = refl
-  in_place-alignment (node old k args) at = (λ i. layer_alignment k (in_place-heads args (inside at k) i) (in_place-alignment_in args (inside at k) i))
+  in_place-alignment (node old k args) at = (λ i. word_alignment k (in_place-heads args (inside at k) i) (in_place-alignment_in args (inside at k) i))
 
   in_place-alignment_in : (args : Args) (at : ℕ) → least_alignment (args_in_place at args) ≡ least_alignment args
   in_place-alignment_in (last e) at = in_place-alignment e at
@@ -93,9 +93,9 @@ layer_again : (k : Name) (args : Args) (at : ℕ) (given : Option ℕ) (ps qs : 
 layer_again k args at given ps qs =
     kept-again (nat_le (needs k (heads args)) (least_alignment args)) (nat_le (needs k (heads (args_in_place at args))) (least_alignment (args_in_place at args)))
     (NeedsAlignment (first_place args)) (NeedsAlignment (first_place (args_in_place at args)))
-    (broken (rules k given (heads args)) (head_places args ps)) (broken (rules k given (heads (args_in_place at args))) (head_places (args_in_place at args) qs))
+    (broken (keeps_ranges k given (heads args)) (head_places args ps)) (broken (keeps_ranges k given (heads (args_in_place at args))) (head_places (args_in_place at args) qs))
     (λ i. nat_le (needs k (in_place-heads args at i)) (in_place-alignment_in args at i))
-    (λ h. ap (λ hs. broken (rules k given hs) (head_places (args_in_place at args) qs)) (in_place-heads args at) ∙ broken-nowhere (rules k given (heads args)) (head_places args ps) (head_places (args_in_place at args) qs) h)
+    (λ h. ap (λ hs. broken (keeps_ranges k given hs) (head_places (args_in_place at args) qs)) (in_place-heads args at) ∙ broken-nowhere (keeps_ranges k given (heads args)) (head_places args ps) (head_places (args_in_place at args) qs) h)
 
 mutual
   flawless-again : (e : Tree) (at : ℕ) (given : Option ℕ) (ps qs : List ℕ) → flaws given e ps ≡ [] → flaws given (in_place at e) qs ≡ []

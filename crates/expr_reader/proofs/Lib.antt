@@ -10,5 +10,6 @@ pub mod Agreeing
 pub mod Whole
 pub mod Texts
 pub mod Printed
+pub mod WordMeanings
 pub mod Builds
 pub mod Again

@@ -1,15 +1,17 @@
 -- Flaws of an expression that reads: numbers that break their rule, and parents with too little alignment.
 -- Alignment goes by the numbers as they are written.
-use Rattle.std.specs.Prelude.{ℕ, ◌+◌, Bool, ◌&&◌, ◌==◌, nat_le, nat_lt, if◌then◌else◌, min, List, [], ◌∷◌, ◌++◌, drop, map, Option, Some, None}
-use Rattle.layer_rules.specs.Offering.{full_alignment}
-use Rattle.size_round.specs.Sizes.{is_between, is_power_of_two, size_bound}
-use Rattle.space_core.specs.Cells.{cell_size}
+use Rattle.std.specs.Prelude.{ℕ, ◌+◌, Bool, ◌&&◌, ◌==◌, nat_le, nat_lt, if◌then◌else◌, min, List, [], ◌∷◌, ◌++◌, drop, map, slice_get, Option, Some, None}
+use Rattle.size_round.specs.Sizes.{is_between, is_power_of_two}
 use Rattle.expr_reader.specs.declared.fault.ExprFault.{ExprFault}
 use Rattle.expr_reader.specs.declared.fault.ExprFault.TheVariants.{Syntax, NumberTooLarge, TooDeep, BadParameter, NeedsAlignment, NoMemory}
 use Rattle.expr_reader.specs.declared.token.Name.{Name}
-use Rattle.expr_reader.specs.declared.token.Name.TheVariants as name
 use Rattle.expr_reader.specs.declared.node.Head.{Head}
 use Rattle.expr_reader.specs.declared.node.Head.TheVariants.{Number, Chosen}
+use Rattle.expr_reader.specs.declared.table.Allowed.{Allowed}
+use Rattle.expr_reader.specs.declared.table.Allowed.TheVariants.{Between, PowerOfTwo}
+use Rattle.expr_reader.specs.declared.table.Alignment.{Alignment}
+use Rattle.expr_reader.specs.declared.table.Alignment.TheVariants.{AsBelow, Fixed, OfNumber}
+use Rattle.expr_reader.specs.Table.{profile_of}
 use Rattle.expr_reader.specs.Tokens.{Placed}
 use Rattle.expr_reader.specs.Trees.{Tree, leaf, node, Args, last, number, choice, layer, place_of}
 
@@ -20,48 +22,52 @@ heads (number n args) = Number n ∷ heads args
 heads (choice c args) = Chosen c ∷ heads args
 heads (layer e args) = heads args
 
--- ---- what is a word's own
+-- ---- what the table says of a word
 
--- the alignment of a word that stands alone
-abbrev pub leaf_alignment : Name → ℕ
-leaf_alignment name.Null = full_alignment
-leaf_alignment k = cell_size
+-- the number that stands there, and else another
+abbrev pub number_or : (other : ℕ) → Option Head → ℕ
+number_or other (Some (Number n)) = n
+number_or other h = other
 
--- the alignment of a layer, from its numbers and the least alignment below it
-abbrev pub layer_alignment : Name → List Head → (below : ℕ) → ℕ
-layer_alignment name.Region (Number size ∷ Number align ∷ []) below = align
-layer_alignment k hs below = below
+-- an alignment, from the word's numbers and the alignment below it
+abbrev pub own_alignment : Alignment → List Head → (below : ℕ) → ℕ
+own_alignment AsBelow hs below = below
+own_alignment (Fixed bytes) hs below = bytes
+own_alignment (OfNumber i) hs below = number_or below (slice_get hs i)
 
--- the alignment that a layer needs below it
+-- the alignment of a word, from its numbers and the least alignment below it
+abbrev pub word_alignment : Name → List Head → (below : ℕ) → ℕ
+word_alignment k hs below = own_alignment (profile_of k).alignment hs below
+
+-- the alignment that a layer needs below it: what it has by itself
 abbrev pub needs : Name → List Head → ℕ
-needs name.Region (Number size ∷ Number align ∷ []) = align
-needs k hs = 0
+needs k hs = word_alignment k hs 0
 
--- what a region's size may be
-abbrev pub is_region_size : ℕ → Bool
-is_region_size size = is_between 1 size_bound size
+-- whether the number is allowed
+abbrev pub is_allowed : Allowed → ℕ → Bool
+is_allowed (Between least most) n = is_between least most n
+is_allowed (PowerOfTwo most) n = is_between 1 most n && is_power_of_two n
 
--- what its alignment may be
-abbrev pub is_region_alignment : ℕ → Bool
-is_region_alignment align = is_between 1 4096 align && is_power_of_two align
+-- The same of each number, in order. What the layer above gives to a word in place of numbers is the first argument.
+abbrev pub are_allowed : (given : Option ℕ) → List Allowed → List Head → List Bool
+are_allowed given (a ∷ more) (Number n ∷ hs) = is_allowed a n ∷ are_allowed given more hs
+are_allowed given allowed hs = []
 
--- Whether each number, and each word in place of numbers, keeps its rule, in order. What the layer above gives to a word in place of
--- numbers is the second argument.
-abbrev pub rules : Name → (given : Option ℕ) → List Head → List Bool
-rules name.Region given (Number size ∷ Number align ∷ []) = is_region_size size ∷ is_region_alignment align ∷ []
-rules k given hs = []
+-- whether each number of a word keeps its range
+abbrev pub keeps_ranges : Name → (given : Option ℕ) → List Head → List Bool
+keeps_ranges k given hs = are_allowed given (profile_of k).allowed hs
 
 -- what a layer gives to a word in place of numbers directly below it: no layer gives anything yet
 abbrev pub gives : Name → List Head → Option ℕ
 gives k hs = None
 
--- ---- all else goes by the signature
+-- ---- all else goes by the arguments
 
 -- the number of which each block's place is a multiple
 abbrev mutual
   pub alignment : Tree → ℕ
-  alignment (leaf at k) = leaf_alignment k
-  alignment (node at k args) = layer_alignment k (heads args) (least_alignment args)
+  alignment (leaf at k) = word_alignment k [] 0
+  alignment (node at k args) = word_alignment k (heads args) (least_alignment args)
 
   -- the least alignment of the layers
   pub least_alignment : Args → ℕ
@@ -124,7 +130,7 @@ broken (is_kept ∷ more) ps = with_first (unless is_kept (BadParameter (first_o
 abbrev pub layer_flaws : (given : Option ℕ) → Name → Args → List ℕ → List ExprFault
 layer_flaws given k args ps =
     with_first (unless (nat_le (needs k (heads args)) (least_alignment args)) (NeedsAlignment (first_place args)))
-    (broken (rules k given (heads args)) (head_places args ps))
+    (broken (keeps_ranges k given (heads args)) (head_places args ps))
 
 -- The flaws of a tree whose tokens begin at these places, the first of them, below a layer that gives this.
 abbrev mutual

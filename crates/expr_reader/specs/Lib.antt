@@ -1,5 +1,6 @@
 pub mod Parts
 pub mod Words
+pub mod Table
 pub mod Signatures
 pub mod Trees
 pub mod Tokens

@@ -9,15 +9,20 @@ use Rattle.expr_reader.specs.declared.node.Head.TheVariants.{Number}
 use Rattle.expr_reader.specs.Trees.{Tree, leaf, node, Args, last, number, choice, layer}
 use Rattle.expr_reader.specs.Flaws.{heads}
 
--- how many leaves of the Space a word takes that stands alone
-abbrev pub leaves_of : Name → ℕ
-leaves_of name.Mem = 1
-leaves_of k = 0
+-- the shape of a word that stands alone
+abbrev pub leaf_shape : Name → (made : ℕ) → Shape
+leaf_shape name.Mem made = shape.mem (made + 1)
+leaf_shape k made = shape.null
+
+-- how many leaves of the Space the shape of such a word takes
+abbrev pub leaves_of : Shape → ℕ
+leaves_of (shape.mem tag) = 1
+leaves_of s = 0
 
 -- how many leaves of the Space the tree takes
 abbrev mutual
   pub leaf_count : Tree → ℕ
-  leaf_count (leaf at k) = leaves_of k
+  leaf_count (leaf at k) = leaves_of (leaf_shape k 0)
   leaf_count (node at k args) = leaf_count_in args
 
   -- how many leaves the layers of some arguments take
@@ -26,11 +31,6 @@ abbrev mutual
   leaf_count_in (number n args) = leaf_count_in args
   leaf_count_in (choice c args) = leaf_count_in args
   leaf_count_in (layer e args) = leaf_count e + leaf_count_in args
-
--- the shape of a word that stands alone
-abbrev pub leaf_shape : Name → (made : ℕ) → Shape
-leaf_shape name.Mem made = shape.mem (made + 1)
-leaf_shape k made = shape.null
 
 -- The shape of a layer, from its numbers and the shapes below it. A word that isn't in the grammar yet stands for no memory at all.
 abbrev pub layer_shape : Name → List Head → List Shape → Shape

@@ -1,23 +1,16 @@
--- The table of words, and how a signature goes on behind what has come.
+-- What each word takes, and how a signature goes on behind what has come.
 use Rattle.std.specs.Prelude.{ℕ, zero, suc, Bool, true, false, if◌then◌else◌, Option, Some, None}
 use Rattle.expr_reader.specs.declared.token.Name.{Name}
-use Rattle.expr_reader.specs.declared.token.Name.TheVariants as name
 use Rattle.expr_reader.specs.declared.token.Choice.{Choice}
 use Rattle.expr_reader.specs.declared.token.Choice.TheVariants.{Any, Pow2}
 use Rattle.expr_reader.specs.declared.signature.Signature.{Signature}
 use Rattle.expr_reader.specs.declared.signature.Entry.{Entry}
 use Rattle.expr_reader.specs.declared.signature.Entry.TheVariants.{Missing, Alone, Takes}
+use Rattle.expr_reader.specs.Table.{profile_of}
 
--- so many numbers and a layer
-abbrev pub plain : (numbers : ℕ) → Entry
-plain numbers = Takes (record { choice = None; numbers = numbers; layers = 0; pairs = false })
-
--- The table: a row for each word of the grammar. A name with no row is no word yet.
+-- what is written behind a name, by the table
 abbrev pub takes : Name → Entry
-takes name.Null = Alone
-takes name.Mem = Alone
-takes name.Region = plain 2
-takes k = Missing
+takes k = (profile_of k).entry
 
 -- what stands between the parentheses, where some may
 abbrev pub inner : Entry → Option Signature

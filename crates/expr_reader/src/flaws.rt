@@ -1,7 +1,7 @@
-//! The flaws of what was read: a word's own rules, and what goes by them alike for all words.
+//! The flaws of what was read, by the table of words.
 
 ghost use Rattle.std.specs.Prelude.{◌≡◌, ◌≤◌, ◌++◌, List, ℕ, map, min, length, None, IfOk, OnOk};
-ghost use Rattle.size_round.specs.Sizes.{is_power_of_two};
+ghost use Rattle.size_round.specs.Sizes.{is_power_of_two, limit};
 ghost use Rattle.expr_reader.specs.Nodes.{node_tree, args_tree};
 ghost use Rattle.expr_reader.specs.Trees.{place_of};
 ghost use Rattle.expr_reader.specs.Flaws as spec;
@@ -10,88 +10,48 @@ ghost use Rattle.expr_reader.specs.declared.token.Token.{Token};
 
 use crate::fault::ExprFault;
 use crate::node::{Args, Head, Node};
+use crate::table::{Alignment, Allowed, profile_of};
 use crate::token::{Name, Token};
 use size_round::{PowerOfTwo, Rounding};
 use std::alloc::{AllocError, Global};
 
-/// The bytes that each place of a `null` is a multiple of.
-const NULL_ALIGNMENT: u64 = 65536;
+// ---- what the table says of a word
 
-// ---- what is a word's own
-
-/// The alignment of a word that stands alone.
-fn leaf_alignment(name: Name) -> u64
-    ensures { result ≡ spec.leaf_alignment name }
+/// An alignment, from the word's numbers and the alignment below it.
+fn own_alignment(alignment: Alignment, heads: &[Head], below: u64) -> u64
+    ensures { result ≡ spec.own_alignment alignment heads.now below }
 {
-    match name {
-        Name::Null => NULL_ALIGNMENT,
-        _ => space_core::CELL_SIZE,
-    }
-}
-
-/// The alignment of a layer.
-fn layer_alignment(name: Name, heads: &[Head], below: u64) -> u64
-    ensures { result ≡ spec.layer_alignment name heads.now below }
-{
-    match name {
-        Name::Region => match heads {
-            [Head::Number(_size), Head::Number(align)] => *align,
+    match alignment {
+        Alignment::AsBelow => below,
+        Alignment::Fixed { bytes } => bytes,
+        Alignment::OfNumber { index } => match heads.get(index) {
+            Some(Head::Number(n)) => *n,
             _ => below,
         },
-        _ => below,
     }
 }
 
-/// The alignment that a layer needs below it.
-fn needs(name: Name, heads: &[Head]) -> u64
-    ensures { result ≡ spec.needs name heads.now }
+/// The alignment of a word, where the least alignment below it is `below`.
+fn word_alignment(name: Name, heads: &[Head], below: u64) -> u64
+    ensures { result ≡ spec.word_alignment name heads.now below }
 {
-    match name {
-        Name::Region => match heads {
-            [Head::Number(_size), Head::Number(align)] => *align,
-            _ => 0,
-        },
-        _ => 0,
-    }
+    own_alignment(profile_of(name).alignment, heads, below)
 }
 
-fn is_power_of_two(align: u64) -> bool
-    requires one { 1 ≤ align }
-    requires most { align ≤ 4096 }
-    ensures { result ≡ is_power_of_two align }
+fn is_power_of_two(n: u64) -> bool
+    requires one { 1 ≤ n }
+    requires most { n ≤ limit }
+    ensures { result ≡ is_power_of_two n }
 {
-    PowerOfTwo.round(align) == align
+    PowerOfTwo.round(n) == n
 }
 
-fn is_region_size(size: u64) -> bool
-    ensures { result ≡ spec.is_region_size size }
+fn is_allowed(allowed: Allowed, n: u64) -> bool
+    ensures { result ≡ spec.is_allowed allowed n }
 {
-    size >= 1 && size <= 1 << 30
-}
-
-fn is_region_alignment(align: u64) -> bool
-    ensures { result ≡ spec.is_region_alignment align }
-{
-    align >= 1 && align <= 4096 && is_power_of_two(align)
-}
-
-/// Whether each number, and each word in place of numbers, keeps its rule.
-fn rules(
-    alloc: Global,
-    name: Name,
-    _given: Option<u64>,
-    heads: &[Head],
-) -> Result<Vec<bool>, AllocError>
-    ensures { IfOk result (λ kept. kept.items ≡ spec.rules name _given heads.now) }
-{
-    match name {
-        Name::Region => match heads {
-            [Head::Number(size), Head::Number(align)] => {
-                Ok(vec![in alloc; is_region_size(*size), is_region_alignment(*align)]?)
-            }
-            _ => Ok(Vec::new(alloc)),
-        },
-        _ => Ok(Vec::new(alloc)),
+    match allowed {
+        Allowed::Between { least, most } => least <= n && n <= most,
+        Allowed::PowerOfTwo { most } => n >= 1 && n <= u64::from(most) && is_power_of_two(n),
     }
 }
 
@@ -102,7 +62,7 @@ fn gives(_name: Name, _heads: &[Head]) -> Option<u64>
     None
 }
 
-// ---- all else goes by the signature
+// ---- all else goes by the arguments
 
 /// Puts the numbers of the arguments, and the words in their place, at the end.
 fn put_heads(args: &Args, out: &mut Vec<Head>) -> Result<(), AllocError>
@@ -245,22 +205,33 @@ fn first_of_two(first: Option<ExprFault>, second: Option<ExprFault>) -> Option<E
     }
 }
 
-/// The fault that is told of the rules that are broken, where each has its place.
+/// The fault that is told of the numbers that aren't allowed, where each has its place.
 #[tactic(auto, using(crate::proofs::Told::told))]
-fn broken(kept: &[bool], places: &[u64]) -> Option<ExprFault>
-    ensures { result ≡ first_told (spec.broken kept.now places.now) }
+fn broken(
+    given: Option<u64>,
+    allowed: &[Allowed],
+    heads: &[Head],
+    places: &[u64],
+) -> Option<ExprFault>
+    ensures { result ≡ first_told (spec.broken (spec.are_allowed given allowed.now heads.now) places.now) }
 {
-    match kept {
+    match allowed {
         [] => None,
-        [is_kept, more @ ..] => match places {
-            [] => first_of_two(
-                unless(*is_kept, ExprFault::BadParameter { at: 0 }),
-                broken(more, places),
-            ),
-            [place, others @ ..] => first_of_two(
-                unless(*is_kept, ExprFault::BadParameter { at: *place }),
-                broken(more, others),
-            ),
+        [test, tests @ ..] => match heads {
+            [Head::Number(n), more @ ..] => match places {
+                [] => first_of_two(
+                    unless(is_allowed(*test, *n), ExprFault::BadParameter { at: 0 }),
+                    broken(given, tests, more, places),
+                ),
+                [place, others @ ..] => first_of_two(
+                    unless(
+                        is_allowed(*test, *n),
+                        ExprFault::BadParameter { at: *place },
+                    ),
+                    broken(given, tests, more, others),
+                ),
+            },
+            _ => None,
         },
     }
 }
@@ -297,14 +268,14 @@ fn layer_flaw(
 {
     let mut head_places = Vec::new(alloc);
     put_places(args, places, &mut head_places)?;
-    let kept = rules(alloc, name, given, heads)?;
     let low = unless(
-        needs(name, heads) <= align,
+        word_alignment(name, heads, 0) <= align,
         ExprFault::NeedsAlignment {
             at: first_place(args),
         },
     );
-    Ok(first_of_two(low, broken(&kept, &head_places)))
+    let bad = broken(given, profile_of(name).allowed, heads, &head_places);
+    Ok(first_of_two(low, bad))
 }
 
 /// What is to be said of a layer whose tokens begin at `places`, below one that gives `given`.
@@ -322,7 +293,7 @@ fn judge(
 {
     match node {
         Node::Leaf { name, .. } => Ok(Judged {
-            align: leaf_alignment(*name),
+            align: word_alignment(*name, &[], 0),
             flaw: None,
         }),
         Node::Inner { name, args, .. } => {
@@ -332,7 +303,7 @@ fn judge(
             let below = judge_args(alloc, gives(*name, &heads), args, places)?;
             let own = layer_flaw(alloc, given, *name, args, &heads, below.align, places)?;
             Ok(Judged {
-                align: layer_alignment(*name, &heads, below.align),
+                align: word_alignment(*name, &heads, below.align),
                 flaw: first_of_two(own, below.flaw),
             })
         }

@@ -19,6 +19,7 @@ fn number(args: Args, more: u32) -> (u64, Args)
     requires { FitsIn (args_tree args) (left (suc more) 0 false) }
     ensures is { args_tree args ≡ trees.number result.0 (args_tree result.1) }
     ensures behind { FitsIn (args_tree result.1) (left more 0 false) }
+    ensures depth { greatest_depth (args_tree result.1) ≡ greatest_depth (args_tree args) }
 {
     match args {
         Args::Number { value, rest } => (value, Box::into_inner(rest)),
@@ -32,6 +33,7 @@ fn only(args: Args) -> Node
     requires { FitsIn (args_tree args) (left 0 0 false) }
     ensures is { args_tree args ≡ last (node_tree result) }
     ensures fits { Fits (node_tree result) }
+    ensures depth { depth (node_tree result) ≡ greatest_depth (args_tree args) }
 {
     match args {
         Args::Last { below } => Box::into_inner(below),
@@ -63,26 +65,26 @@ fn layer_form(alloc: Global, left: u32, name: Name, args: Args) -> Result<Form, 
         Name::Region => {
             let (size, args) = number(args, 1);
             let (align, args) = number(args, 0);
-            let parent = expr_of(alloc, left, only(args))?;
+            let parent = parent(alloc, left, args)?;
             Ok(Form::Region {
                 size,
                 align,
-                parent: Box::new(alloc, parent)?,
+                parent,
             })
         }
-        Name::Null
-        | Name::Mem
-        | Name::Bitmap
-        | Name::Kr
-        | Name::FreeList
-        | Name::Quantize
-        | Name::Stats
-        | Name::Affix
-        | Name::Segregate
-        | Name::Buckets
-        | Name::Fallback
-        | Name::List => unreachable!(),
+        _ => unreachable!(),
     }
+}
+
+/// The last layer, of `most` layers at most, as the parent of the layer above.
+#[cycle(forms)]
+fn parent(alloc: Global, most: u32, args: Args) -> Result<Box<Expr>, AllocError>
+    requires fits { FitsIn (args_tree args) (left 0 0 false) }
+    requires shallow { greatest_depth (args_tree args) ≤ most }
+    ensures { IfOk result (λ parent. args_tree args ≡ last (tree_of parent.value)) }
+{
+    let expr = expr_of(alloc, most, only(args))?;
+    Ok(Box::new(alloc, expr)?)
 }
 
 /// The expression that was read, of `left` layers at most.

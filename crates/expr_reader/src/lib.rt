@@ -11,6 +11,7 @@ mod node;
 mod printing;
 mod reading;
 mod signature;
+mod table;
 mod token;
 mod tree;
 mod words;

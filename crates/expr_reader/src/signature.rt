@@ -1,9 +1,9 @@
-//! What each word takes between its parentheses.
+//! What each word takes between its parentheses, and how that goes on behind what has come.
 
 ghost use Rattle.std.specs.Prelude.{◌≡◌, Some};
 ghost use Rattle.expr_reader.specs.Signatures.{takes, left, same_choice, after_number, after_choice, after_layer, ends};
-ghost use Rattle.expr_reader.specs.Signatures as signatures;
 
+use crate::table::profile_of;
 use crate::token::{Choice, Name};
 
 /// What is still to come between the parentheses of a layer: so many numbers, or a word in their place, and then so many layers
@@ -19,10 +19,10 @@ pub struct Signature {
     pub pairs: bool,
 }
 
-/// A name's row in the table of words.
+/// What is written behind a name.
 #[derive(Clone, Copy, Drop)]
 pub enum Entry {
-    /// There is none: the name is no word of the grammar yet.
+    /// The name is no word of the grammar yet.
     Missing,
     /// The word stands alone.
     Alone,
@@ -30,28 +30,11 @@ pub enum Entry {
     Takes(Signature),
 }
 
-/// So many numbers and a layer.
-fn plain(numbers: u32) -> Entry
-    ensures { result ≡ signatures.plain numbers }
-{
-    Entry::Takes(Signature {
-        choice: None,
-        numbers,
-        layers: 0,
-        pairs: false,
-    })
-}
-
-/// The table of words.
+/// What is written behind a name, by the table of words.
 pub fn takes(name: Name) -> Entry
     ensures { result ≡ takes name }
 {
-    match name {
-        Name::Null => Entry::Alone,
-        Name::Mem => Entry::Alone,
-        Name::Region => plain(2),
-        _ => Entry::Missing,
-    }
+    profile_of(name).entry
 }
 
 /// What is to come, where no word may stand in place of the numbers any more.

@@ -19,7 +19,7 @@ use Rattle.layer_rules.specs.Rules.{Rules, IsSettled}
 use Rattle.layer_rules.specs.Setting.{then_open}
 use Rattle.layer_rules.specs.Testing.{is_nothing}
 use Rattle.layer_laws.specs.Basics.{and-fst, and-snd}
-use Rattle.layer_laws.specs.Lawful.{TellingLaws, ReadingLaws, RefusingLaws, TailLaws, OpennessLaws, OwningLaws, TakingLaws, IsRegular, KeepsOnNone, KeepsOnFalse, KeptUnmoved, KeepsUnmoved, OnlyOwnCells}
+use Rattle.layer_laws.specs.Lawful.{TellingLaws, ReadingLaws, RefusingLaws, RefusedLaws, UnrangedLaws, TailLaws, OpennessLaws, OwningLaws, TakingLaws, IsRegular, KeepsOnNone, KeepsOnFalse, KeptUnmoved, KeepsUnmoved, OnlyOwnCells, yes_if}
 use Rattle.layer_laws.specs.Owners.{KeptOnNo, AsksUnread, not_owned-child_if, not_owned-next, steady-child_if, asks-child_if, open-may_hold}
 use Rattle.layer_laws.specs.Reallocations.{keeps-asked_to_expand, keeps-change_child, keeps-asked_to_reallocate, keeps-move_to, kept-then_move, keeps-reallocate_child, keeps-either_reallocate}
 use Rattle.layer_laws.specs.Requests.{is_refusal, keeps-asked_for, keeps-serve_member, none-asked_for, none-of-some, none-serve_member}
@@ -28,7 +28,9 @@ use Rattle.layer_laws.specs.Steps.{then-ok}
 use Rattle.layer_laws.specs.Takings.{HasLeavesOf, TakesOwn, takes-asked_for, takes-serve_member, takes-next, took-wider, took-then, took-opened}
 use Rattle.layer_laws.specs.Tests.{set-up-opens}
 use Rattle.layer_laws.specs.Uncounting.{same-child, same-may_hold}
+use Rattle.layer_laws.specs.Unranged.{regular-unranged, refused-refusing, unranged-regular}
 use Rattle.layer_laws.specs.Unreading.{told-child, unread-may_hold, unread-if_set_up}
+use Rattle.layer_laws.specs.Paths.{along-at_end, along-below, along-no_layer}
 use Rattle.fallback_rules.specs.FallbackRules.{fallback_allocate, fallback_set_up, either_change, fallback_deallocate, or_other, reallocate_or_other, fallback_reallocate, reply_or, or_owns, fallback_owns, fallback_holds, fallback_owns_at, fallback_rules}
 use Rattle.fallback_rules.specs.EachChild.{OfChildren, of_children-member, after-asked_for}
 use Rattle.fallback_rules.specs.OrElse.{after-or_else, keeps-or_else, none-or_else, least-alignment, in-first, in-rest}
@@ -136,7 +138,7 @@ keeps-reallocate_or_other i move j serve give k l b s cells =
     let r = reallocate_child i move b s cells in
     keeps-or_other (serve_member (λ c. c) j serve) (change_child i give) b s cells (keeps-serve_member (λ c. c) j serve l) r.answer r.state r.cells (keeps-reallocate_child i move k b s cells)
 
-keeps-fallback_reallocate : (p f : Rules) (n : ℕ) → RefusingLaws p → RefusingLaws f → KeepsUnmoved (fallback_reallocate p f n)
+keeps-fallback_reallocate : (p f : Rules) (n : ℕ) → RefusedLaws p → RefusedLaws f → KeepsUnmoved (fallback_reallocate p f n)
 keeps-fallback_reallocate p f n h k =
     keeps-asked_to_reallocate n (fallback_deallocate p f)
     (λ b s. either_reallocate (p.holds b (child s 0)) (reallocate_or_other 0 (p.reallocate n) 1 (f.allocate n) p.deallocate) (reallocate_or_other 1 (f.reallocate n) 0 (p.allocate n) f.deallocate) b s)
@@ -205,16 +207,16 @@ pair-test p f s cells h =
 -- ---- tails
 
 -- a closed one has only closed children
-free-when-settled : (p f : Rules) (s : State) (cells : Cells) → RefusingLaws p → RefusingLaws f → TailLaws p → TailLaws f → IsSettled (fallback_rules p f) s cells → (p.has_free_tails (child s 0) && f.has_free_tails (child s 1)) ≡ true
+free-when-settled : (p f : Rules) (s : State) (cells : Cells) → RefusedLaws p → RefusedLaws f → TailLaws p → TailLaws f → IsSettled (fallback_rules p f) s cells → (p.has_free_tails (child s 0) && f.has_free_tails (child s 1)) ≡ true
 unfolding fallback_rules
 free-when-settled p f closed cells h k v w z = and_from _ _ v.shut w.shut
 free-when-settled p f (open_with own ss) cells h k v w z =
     let q = pair-parts p f (open_with own ss) cells z in
     and_from _ _ (h.free_tails (child (open_with own ss) 0) cells q.first) (k.free_tails (child (open_with own ss) 1) cells q.second)
 
-fallback-refusing : (p f : Rules) → RefusingLaws p → RefusingLaws f → TailLaws p → TailLaws f → RefusingLaws (fallback_rules p f)
+fallback-refused : (p f : Rules) → RefusedLaws p → RefusedLaws f → TailLaws p → TailLaws f → RefusedLaws (fallback_rules p f)
 unfolding fallback_rules
-fallback-refusing p f h k v w = record {
+fallback-refused p f h k v w = record {
   allocate = λ n. keeps-asked_for n (fallback_allocate (p.allocate n) (f.allocate n)) (keeps-fallback_allocate (p.allocate n) (f.allocate n) (h.allocate n) (k.allocate n));
   aligned_allocate = λ n a.
       keeps-asked_for n (fallback_allocate (p.aligned_allocate n a) (f.aligned_allocate n a)) (keeps-fallback_allocate (p.aligned_allocate n a) (f.aligned_allocate n a) (h.aligned_allocate n a) (k.aligned_allocate n a));
@@ -223,11 +225,6 @@ fallback-refusing p f h k v w = record {
       (λ b s. keeps-either_change (p.holds b (child s 0)) (change_child 0 (p.expand delta)) (change_child 1 (f.expand delta))
       (keeps-change_child 0 (p.expand delta) (h.expand delta)) (keeps-change_child 1 (f.expand delta) (k.expand delta)) b s);
   reallocate = λ n. keeps-fallback_reallocate p f n h k;
-  none = λ n s cells t.
-      none-asked_for n (fallback_allocate (p.allocate n) (f.allocate n)) s cells _
-      (λ l m. none-fallback p f n s cells h k l (and-fst (p.has_free_tails (child s 0)) _ t) (and-snd (p.has_free_tails (child s 0)) _ t));
-  none_aligned = λ n a s cells.
-      none-asked_for n (fallback_allocate (p.aligned_allocate n a) (f.aligned_allocate n a)) s cells _ (λ l m. none-fallback_aligned p f n a s cells h k l);
   free_tails = λ s cells. free-when-settled p f s cells h k v w;
   refuses_uncounted = λ n s t cells q.
       ap₂ (λ x y. over_limit_or n (x && y)) (h.refuses_uncounted n (child s 0) (child t 0) cells (same-child s t 0 q)) (k.refuses_uncounted n (child s 1) (child t 1) cells (same-child s t 1 q));
@@ -236,6 +233,16 @@ fallback-refusing p f h k v w = record {
   free_tails_uncounted = λ s t q.
       ap₂ (λ x y. x && y) (h.free_tails_uncounted (child s 0) (child t 0) (same-child s t 0 q)) (k.free_tails_uncounted (child s 1) (child t 1) (same-child s t 1 q));
 }
+
+fallback-refusing : (p f : Rules) → RefusingLaws p → RefusingLaws f → RefusedLaws (fallback_rules p f) → RefusingLaws (fallback_rules p f)
+unfolding fallback_rules
+fallback-refusing p f h k r =
+    refused-refusing (fallback_rules p f) r
+    (λ n s cells t.
+    none-asked_for n (fallback_allocate (p.allocate n) (f.allocate n)) s cells _
+    (λ l m. none-fallback p f n s cells h k l (and-fst (p.has_free_tails (child s 0)) _ t) (and-snd (p.has_free_tails (child s 0)) _ t)))
+    (λ n a s cells.
+    none-asked_for n (fallback_allocate (p.aligned_allocate n a) (f.aligned_allocate n a)) s cells _ (λ l m. none-fallback_aligned p f n a s cells h k l))
 
 -- the tails of the child with this number are free
 abbrev HasTails : (p f : Rules) → ℕ → State → Type 0
@@ -359,6 +366,12 @@ not_owned-or s next r h k = go r.owned refl
     go true q = λ z. absurd (cc)
     go false q = not_owned-next s r next q h k
 
+fallback-along : (p f : Rules) → OwningLaws p → OwningLaws f → (path : List ℕ) (possible : Bool) (b : Block) (s : State) → fallback_owns_at p f path possible b s ≡ yes_if possible (fallback_owns_at p f path true b s)
+fallback-along p f h k [] possible b s = along-at_end (both_offer p.offers f.offers).owns (fallback_holds p f b s) possible
+fallback-along p f h k (zero ∷ path) possible b s = along-below (is_served_size b.len) (λ x. p.owns_at path x b (child s 0)) (λ x. h.along path x b (child s 0)) possible
+fallback-along p f h k (suc zero ∷ path) possible b s = along-below (is_served_size b.len) (λ x. f.owns_at path x b (child s 1)) (λ x. k.along path x b (child s 1)) possible
+fallback-along p f h k (suc (suc i) ∷ path) possible b s = along-no_layer possible
+
 fallback-owning : (p f : Rules) → OwningLaws p → OwningLaws f → OwningLaws (fallback_rules p f)
 unfolding fallback_rules
 fallback-owning p f h k = record {
@@ -376,6 +389,7 @@ fallback-owning p f h k = record {
   holds_uncounted = λ b s t q.
       ap₂ (λ x y. x && y) (same-may_hold b s t q)
       (ap₂ (λ x y. x || y) (h.holds_uncounted b (child s 0) (child t 0) (same-child s t 0 q)) (k.holds_uncounted b (child s 1) (child t 1) (same-child s t 1 q)));
+  along = fallback-along p f h k;
 }
 
 -- ---- taking
@@ -420,16 +434,20 @@ fallback-taking p f h k =
 
 -- ---- all families
 
-pub fallback-regular : (p f : Rules) → IsRegular p → IsRegular f → IsRegular (fallback_rules p f)
-fallback-regular p f h k = record {
-  telling = fallback-telling p f h.telling k.telling;
+pub fallback-unranged : (p f : Rules) → UnrangedLaws p → UnrangedLaws f → UnrangedLaws (fallback_rules p f)
+fallback-unranged p f h k = record {
   reading = fallback-reading p f h.reading k.reading;
-  refusing = fallback-refusing p f h.refusing k.refusing h.tails k.tails;
+  refused = fallback-refused p f h.refused k.refused h.tails k.tails;
   tails = fallback-tails p f h.tails k.tails;
   openness = fallback-openness p f;
   owning = fallback-owning p f h.owning k.owning;
   taking = fallback-taking p f h.taking k.taking;
 }
+
+pub fallback-regular : (p f : Rules) → IsRegular p → IsRegular f → IsRegular (fallback_rules p f)
+fallback-regular p f h k =
+    let u = fallback-unranged p f (regular-unranged p h) (regular-unranged f k) in
+    unranged-regular (fallback_rules p f) u (fallback-telling p f h.telling k.telling) (fallback-refusing p f h.refusing k.refusing u.refused)
 
 -- the law
 abbrev pub FallbackIsRegular : Type 0

@@ -1,14 +1,15 @@
 -- The cached blocks: what the tests of a free list say, and what makes them pass.
 use Rattle.size_round.specs.Sizes.{is_between}
-use Rattle.std.proofs.Common.{◌≡◌, refl, sym, ap, subst, ◌∙◌, ℕ, ◌≤◌, true, false, ◌&&◌, arith, List, [], ◌∷◌, nat_le}
+use Rattle.std.proofs.Common.{◌≡◌, refl, sym, ap, ap₂, subst, ◌∙◌, ℕ, ◌≤◌, true, false, ◌&&◌, arith, List, [], ◌∷◌, nat_le}
 use Rattle.std.proofs.lemmas.Bool.{and_from}
 use Rattle.std.proofs.lemmas.Bool.Decides.{nat_tests}
 use Rattle.space_core.specs.Cells.{Cells}
 use Rattle.layer_rules.specs.declared.Block.{Block}
 use Rattle.layer_rules.specs.Blocks.{block, with_len, lies_in, is_apart}
 use Rattle.layer_rules.specs.State.{State, Own, cache_own, open_with, one_child, is_open, own_of, child, cached_of, cached_in}
-use Rattle.layer_rules.specs.Rules.{Rules, IsSettled, AreApart}
+use Rattle.layer_rules.specs.Rules.{Rules, IsSettled}
 use Rattle.layer_rules.specs.Testing.{is_over}
+use Rattle.layer_laws.specs.Apart.{SameExtents, apart-moved}
 use Rattle.layer_laws.specs.Basics.{and-fst, and-snd}
 use Rattle.layer_laws.specs.Tests.{opened, over-parts}
 use Rattle.free_list_rules.specs.FreeListRules.{cache_size, cache_down, is_cache_own, is_cache, is_apart_from, cache_settled, free_list_rules}
@@ -106,23 +107,22 @@ down_has_all_bytes least greatest b = longer b (cache_size least greatest b.len)
     longer : (b : Block) (n : ℕ) → b.len ≤ n → lies_in b (with_len b n) ≡ true
     longer b n h = grind (arith, nat_tests)
 
--- ---- extents in two states
+-- ---- two states
 
--- the extents of a layer are the same in two states
-pub record SameExtents (e : Rules) (s t : State) : Type 0 where
-  pub at : (b : Block) → e.extent b t ≡ e.extent b s
+-- what is out in one state is out in another
+pub all-out-moved : (e : Rules) (s t : State) (old new : Cells) (m : ℕ) (ps : List ℕ) → ((b : Block) → e.is_out b s old ≡ true → e.is_out b t new ≡ true) → AllOut e s old m ps → AllOut e t new m ps
+all-out-moved e s t old new m [] f a = tt
+all-out-moved e s t old new m (p ∷ ps) f a = (f (block p m) a.0, all-out-moved e s t old new m ps f a.1)
 
-pub apart-moved : (e : Rules) (s t : State) (b c : Block) → SameExtents e s t → AreApart e s b c → AreApart e t b c
-apart-moved e s t b c g a = record { either = rw (g.at b, g.at c) a.either }
-
-pub apart-flip : (e : Rules) (s : State) (b c : Block) → AreApart e s b c → AreApart e s c b
-apart-flip e s b c a = record { either = flip (e.extent b s) (e.extent c s) a.either } where
-  flip : (x y : Block) → is_apart x y ≡ true → is_apart y x ≡ true
-  flip x y h = grind (arith, nat_tests)
+-- blocks that are apart, in two states with the same extents
 
 pub apart-from-moved : (e : Rules) (s t : State) (m : ℕ) (b : Block) (ps : List ℕ) → SameExtents e s t → ApartFrom e s m b ps → ApartFrom e t m b ps
 apart-from-moved e s t m b [] g a = tt
 apart-from-moved e s t m b (p ∷ ps) g a = (apart-moved e s t b (block p m) g a.0, apart-from-moved e s t m b ps g a.1)
+
+pub apart-from-same : (e : Rules) (s t : State) (m : ℕ) (b : Block) (ps : List ℕ) → SameExtents e s t → is_apart_from e t m b ps ≡ is_apart_from e s m b ps
+apart-from-same e s t m b [] g = refl
+apart-from-same e s t m b (p ∷ ps) g = ap₂ (λ x y. x && y) (ap₂ is_apart (g.at b) (g.at (block p m))) (apart-from-same e s t m b ps g)
 
 pub all-apart-moved : (e : Rules) (s t : State) (m : ℕ) (ps : List ℕ) → SameExtents e s t → AllApart e s m ps → AllApart e t m ps
 all-apart-moved e s t m [] g a = tt

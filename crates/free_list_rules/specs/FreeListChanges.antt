@@ -9,11 +9,12 @@ use Rattle.layer_rules.specs.State.{State, cache_own, open_with, one_child, is_o
 use Rattle.layer_rules.specs.After.{After, after, change_child}
 use Rattle.layer_rules.specs.Expanding.{expand_lack}
 use Rattle.layer_rules.specs.Rules.{Rules, IsSettled, AreApart, longer_if}
+use Rattle.layer_laws.specs.Apart.{SameExtents, apart-flip}
 use Rattle.layer_laws.specs.Lawful.{IsFreed, Freeing, IsGrown, Growing, IsEmptied, Emptying}
 use Rattle.layer_laws.specs.Steps.{kept-long, asked-grown, longer-some}
 use Rattle.free_list_rules.specs.FreeListRules.{cache_size, cache_down, free_list_rules}
 use Rattle.free_list_rules.specs.FreeListMeanings.{ApartFrom, AllOut, IsSoundCache, IsOutCache}
-use Rattle.free_list_rules.specs.CacheParts.{cache-settles, cache-opened, out-free_list, free_list-out, SameExtents, apart-flip, apart-from-moved, all-apart-moved, cached-size, uncached-size}
+use Rattle.free_list_rules.specs.CacheParts.{cache-settles, cache-opened, out-free_list, free_list-out, apart-from-moved, all-apart-moved, cached-size, uncached-size}
 
 -- ---- a block is given back
 
@@ -29,14 +30,16 @@ uncached-freed least greatest e ps t cells b r d h x g =
     let new = open_with (cache_own ps) (one_child r.state) in
     let same : SameExtents e t r.state = record { at = g.extents } in
     let far : ApartFrom e t greatest b ps = subst (λ k. ApartFrom e t greatest k ps) d x.apart in
+    let apart_below = λ (c : Block) (a : AreApart (free_list_rules least greatest e) old b c).
+    let z : AreApart e t b (cache_down least greatest c) = record { either = subst (λ k. is_apart (e.extent k t) (e.extent (cache_down least greatest c) t) ≡ true) d a.either } in z in
     record {
       is_set = refl;
       settled = cache-settles greatest e ps r.state r.cells g.is_set (all-left e t cells b greatest r ps g h.out far) (all-apart-moved e t r.state greatest ps same h.apart) g.settled;
       extents = λ c. g.extents (cache_down least greatest c);
+      routes = λ c o a. ap (λ r. 0 ∷ r) (g.routes (cache_down least greatest c) (out-free_list least greatest e c old cells o).below (apart_below c a));
       stays = λ c o a.
           let y = out-free_list least greatest e c old cells o in
-          let z : AreApart e t b (cache_down least greatest c) = record { either = subst (λ k. is_apart (e.extent k t) (e.extent (cache_down least greatest c) t) ≡ true) d a.either } in
-          free_list-out least greatest e c new r.cells (record { is_set = refl; some = y.some; below = g.stays (cache_down least greatest c) y.below z; apart = apart-from-moved e t r.state greatest (cache_down least greatest c) ps same y.apart });
+          free_list-out least greatest e c new r.cells (record { is_set = refl; some = y.some; below = g.stays (cache_down least greatest c) y.below (apart_below c a); apart = apart-from-moved e t r.state greatest (cache_down least greatest c) ps same y.apart });
       table = λ c. g.table c;
     }
 
@@ -52,6 +55,7 @@ cached-freed least greatest e ps t cells b d h x =
       is_set = refl;
       settled = cache-settles greatest e (b.place ∷ ps) t cells h.parent (subst (λ k. e.is_out k t cells ≡ true) d x.below, h.out) (far, h.apart) h.below;
       extents = λ c. refl;
+      routes = λ c o a. refl;
       stays = λ k o a.
           let y = out-free_list least greatest e k old cells o in
           let kd = cache_down least greatest k in
@@ -108,6 +112,7 @@ cache-expanded least greatest e ps t cells b delta d r same h x g =
       is_set = refl;
       settled = cache-settles greatest e ps r.state r.cells g.is_set (all-beside e t cells (down b) d greatest r ps g h.out x.apart) (all-apart-moved e t r.state greatest ps move h.apart) g.settled;
       extents = λ c. g.extents (down c);
+      routes = λ c p a. ap (λ r. 0 ∷ r) (g.routes (down c) (out-free_list least greatest e c old cells p).below (λ q. record { either = (a q).either }));
       stays = λ c p a.
           let y = out-free_list least greatest e c old cells p in
           free_list-out least greatest e c new r.cells (record { is_set = refl; some = y.some; below = g.stays (down c) y.below (λ q. record { either = (a q).either }); apart = apart-from-moved e t r.state greatest (down c) ps move y.apart });

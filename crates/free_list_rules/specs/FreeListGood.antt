@@ -8,11 +8,12 @@ use Rattle.layer_rules.specs.State.{State, cache_own, open_with, one_child, is_o
 use Rattle.layer_rules.specs.After.{After, after, placed, Placed, from_child}
 use Rattle.layer_rules.specs.Allocating.{truncated}
 use Rattle.layer_rules.specs.Rules.{Rules, IsSettled, AreApart}
+use Rattle.layer_laws.specs.Apart.{SameExtents, apart-flip}
 use Rattle.layer_laws.specs.Lawful.{IsGood, Good}
 use Rattle.layer_laws.specs.Steps.{asked-good}
 use Rattle.free_list_rules.specs.FreeListRules.{cache_down, cache_allocate, free_list_rules}
 use Rattle.free_list_rules.specs.FreeListMeanings.{ApartFrom, AllOut, IsSoundCache}
-use Rattle.free_list_rules.specs.CacheParts.{cache-settles, cache-opened, out-free_list, free_list-out, SameExtents, apart-flip, apart-from-moved, all-apart-moved, cached-size}
+use Rattle.free_list_rules.specs.CacheParts.{cache-settles, cache-opened, out-free_list, free_list-out, apart-from-moved, all-apart-moved, cached-size, all-out-moved}
 
 -- ---- a block of the parent
 
@@ -38,10 +39,6 @@ truncated-fits down n m h = record { same = λ b e. h b.place ∙ ap (block b.pl
 
 -- ---- a request
 
-all-stay : (e : Rules) (s : State) (cells : Cells) (n m : ℕ) (r : After (Option Placed)) (ps : List ℕ) → IsGood e s cells n r → AllOut e s cells m ps → AllOut e r.state r.cells m ps
-all-stay e s cells n m r [] g a = tt
-all-stay e s cells n m r (p ∷ ps) g a = (g.stays (block p m) a.0, all-stay e s cells n m r ps g a.1)
-
 fresh-from : (e : Rules) (s : State) (cells : Cells) (n m : ℕ) (r : After (Option Placed)) (q : Placed) (ps : List ℕ) → IsGood e s cells n r → r.answer ≡ Some q → AllOut e s cells m ps → ApartFrom e s m q.block ps
 fresh-from e s cells n m r q [] g z a = tt
 fresh-from e s cells n m r q (p ∷ ps) g z a = (g.fresh q z (block p m) a.0, fresh-from e s cells n m r q ps g z a.1)
@@ -59,8 +56,9 @@ over-good least greatest e shown ps t cells n m r fit l h g =
     let seen = λ (q : Placed) (x : IsShown shown r.answer q). let y : down q.block ≡ x.below.block = ap down x.block ∙ fit.same x.below.block (g.len x.below x.answered) in y in
     record {
       is_set = refl;
-      settled = cache-settles greatest e ps r.state r.cells g.is_set (all-stay e t cells m greatest r ps g h.out) (all-apart-moved e t r.state greatest ps same h.apart) g.settled;
+      settled = cache-settles greatest e ps r.state r.cells g.is_set (all-out-moved e t r.state cells r.cells greatest ps g.stays h.out) (all-apart-moved e t r.state greatest ps same h.apart) g.settled;
       extents = λ b. g.extents (down b);
+      routes = λ b o. ap (λ r. 0 ∷ r) (g.routes (down b) (out-free_list least greatest e b old cells o).below);
       stays = λ b o. let x = out-free_list least greatest e b old cells o in free_list-out least greatest e b new r.cells (record { is_set = refl; some = x.some; below = g.stays (down b) x.below; apart = apart-from-moved e t r.state greatest (down b) ps same x.apart });
       len = λ q z. let x = shown-of shown r.answer q z in ap (λ (b : Block). b.len) x.block ∙ fit.len x.below.block (g.len x.below x.answered);
       out = λ q z.
@@ -92,6 +90,7 @@ front-good least greatest e p ps way t cells n l i h =
       is_set = refl;
       settled = cache-settles greatest e ps t cells h.parent h.out.1 h.apart.1 h.below;
       extents = λ b. refl;
+      routes = λ b o. refl;
       stays = λ b o. let x = out-free_list least greatest e b old cells o in free_list-out least greatest e b new cells (record { is_set = refl; some = x.some; below = x.below; apart = x.apart.1 });
       len = λ q z. let y : placed (block p n) way ≡ q = cc in sym (ap (λ (q : Placed). q.block.len) y);
       out = λ q z. let y : placed (block p n) way ≡ q = cc in subst (λ (q : Placed). f.is_out q.block new cells ≡ true) y

@@ -1,28 +1,39 @@
 -- A free list is lawful over a parent that is regular and lawful.
-use Rattle.std.proofs.Common.{refl, subst, ℕ, []}
-use Rattle.layer_rules.specs.State.{is_open, cache_own}
+use Rattle.std.proofs.Common.{◌≡◌, refl, subst, ℕ, true, []}
+use Rattle.space_core.specs.Cells.{Cells}
+use Rattle.layer_rules.specs.declared.Block.{Block}
+use Rattle.layer_rules.specs.State.{State, is_open, cache_own}
 use Rattle.layer_rules.specs.Rules.{Rules, IsSettled, HasSomeTags}
-use Rattle.layer_laws.specs.Lawful.{KeepingLaws, Opens, OpeningLaws, OpennessLaws, IsRegular, IsLawful}
-use Rattle.layer_laws.specs.Steps.{parent-ok}
+use Rattle.layer_laws.specs.Lawful.{TakingLaws, KeepingLaws, Opens, OpeningLaws, OpennessLaws, IsRegular, IsLawful}
+use Rattle.layer_laws.specs.Reallocated.{generally-reallocated}
+use Rattle.layer_laws.specs.Steps.{parent-ok, refuse-aligned}
 use Rattle.layer_laws.specs.Tests.{some-open}
-use Rattle.free_list_rules.specs.FreeListRules.{cache_need, free_list_rules}
+use Rattle.free_list_rules.specs.FreeListRules.{cache_need, free_list_offers, free_list_rules}
 use Rattle.free_list_rules.specs.FreeListMeanings.{IsCacheSize}
 use Rattle.free_list_rules.specs.CacheParts.{cache-settles, out-free_list}
 use Rattle.free_list_rules.specs.FreeListGood.{free_list-good}
 use Rattle.free_list_rules.specs.FreeListChanges.{free_list-freed, free_list-grown, free_list-emptied}
+use Rattle.free_list_rules.specs.FreeListOwning.{free_list-owned}
+use Rattle.free_list_rules.specs.FreeListRegular.{free_list-taking}
 use Rattle.free_list_rules.specs.FreeListPlacing.{free_list-placing}
 use Rattle.free_list_rules.specs.FreeListFraming.{free_list-framing}
 
-pub free_list-keeping : (least greatest : ℕ) (e : Rules) → KeepingLaws e → KeepingLaws (free_list_rules least greatest e)
+pub free_list-keeping : (least greatest : ℕ) (e : Rules) → OpennessLaws e → TakingLaws e → KeepingLaws e → KeepingLaws (free_list_rules least greatest e)
 unfolding free_list_rules
-free_list-keeping least greatest e p =
+free_list-keeping least greatest e r t p =
+    let f = free_list_rules least greatest e in
+    let some = λ (b : Block) (s : State) (cells : Cells) (o : f.is_out b s cells ≡ true). (out-free_list least greatest e b s cells o).some in
     record {
+      out_some = some;
       out_open = λ b s cells o. some-open (is_open s) _ _ o;
-      out_some = λ b s cells o. (out-free_list least greatest e b s cells o).some;
       good = free_list-good least greatest e p.good;
       freed = free_list-freed least greatest e p.freed;
       grown = free_list-grown least greatest e p.grown;
       emptied = free_list-emptied least greatest e p.emptied;
+      reallocated = generally-reallocated f (free_list_offers e.offers)
+          (record { some = some; takes = (free_list-taking least greatest e t).allocate; good = free_list-good least greatest e p.good; freed = free_list-freed least greatest e p.freed; grown = free_list-grown least greatest e p.grown });
+      aligned = λ n a s cells q l o h. refuse-aligned (free_list_rules least greatest e) n a s cells o h;
+      owned = free_list-owned least greatest e r p.owned;
     }
 
 free_list-opens : (least greatest : ℕ) (e : Rules) → OpennessLaws e → Opens e → Opens (free_list_rules least greatest e)
@@ -40,7 +51,7 @@ free_list-opening least greatest e o p = record { closed_settled = λ cells. ref
 pub free_list-lawful : (least greatest : ℕ) (e : Rules) → IsCacheSize least greatest → HasSomeTags e → IsRegular e → IsLawful e → IsLawful (free_list_rules least greatest e)
 free_list-lawful least greatest e w t r p =
     record {
-      keeping = free_list-keeping least greatest e p.keeping;
+      keeping = free_list-keeping least greatest e r.openness r.taking p.keeping;
       placing = free_list-placing least greatest e t p.placing;
       framing = free_list-framing least greatest e w p.placing p.framing;
       opening = free_list-opening least greatest e r.openness p.opening;

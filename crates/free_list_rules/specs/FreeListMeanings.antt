@@ -18,11 +18,11 @@ pub record IsCacheSize (least greatest : ℕ) : Type 0 where
   pub most : greatest ≤ size_bound
   pub ordered : least ≤ greatest
 
--- where they are proper a free list is regular over a parent that is
+-- whatever they are a free list is regular over a parent that is
 abbrev pub FreeListIsRegular : Type 0
-FreeListIsRegular = (least greatest : ℕ) (e : Rules) → IsCacheSize least greatest → IsRegular e → IsRegular (free_list_rules least greatest e)
+FreeListIsRegular = (least greatest : ℕ) (e : Rules) → IsRegular e → IsRegular (free_list_rules least greatest e)
 
--- and lawful where this is lawful too
+-- and where they are proper it is lawful over one that is lawful too
 abbrev pub FreeListIsLawful : Type 0
 FreeListIsLawful =
     (least greatest : ℕ) (e : Rules) → IsCacheSize least greatest → HasSomeTags e → IsRegular e → IsLawful e → IsLawful (free_list_rules least greatest e)

@@ -16,7 +16,7 @@ use Rattle.layer_rules.specs.Offering.{is_served_size}
 use Rattle.layer_rules.specs.Owning.{is_plausible, may_hold, at_end, into_parent}
 use Rattle.layer_rules.specs.Rules.{Rules, IsSettled}
 use Rattle.layer_laws.specs.GoodSizes.{served-enough, unserved-zero, unserved-above}
-use Rattle.layer_laws.specs.Lawful.{TellingLaws, ReadingLaws, RefusingLaws, TailLaws, OpennessLaws, OwningLaws, TakingLaws, IsRegular, KeptOnNone, KeepsOnNone, OnlyOwnCells}
+use Rattle.layer_laws.specs.Lawful.{TellingLaws, ReadingLaws, RefusingLaws, RefusedLaws, UnrangedLaws, TailLaws, OpennessLaws, OwningLaws, TakingLaws, IsRegular, KeptOnNone, KeepsOnNone, OnlyOwnCells, yes_if}
 use Rattle.layer_laws.specs.Steps.{parent-ok, parent-refuses}
 use Rattle.layer_laws.specs.Tests.{set-up-opens, takes-none}
 use Rattle.layer_laws.specs.Uncounting.{same-child, same-cached}
@@ -25,9 +25,10 @@ use Rattle.layer_laws.specs.Requests.{keeps-refuse, keeps-asked_for, keeps-serve
 use Rattle.layer_laws.specs.Reallocations.{keeps-asked_to_expand, keeps-expand_by_lack, keeps-asked_to_reallocate, keeps-general_reallocate}
 use Rattle.layer_laws.specs.Takings.{TakesOwn, takes-refuse, takes-asked_for, takes-serve_parent, HasLeavesOf, took-wider, took-parent}
 use Rattle.layer_laws.specs.Owners.{held-same, AsksUnread, owned-child, open-may_hold, not_owned-child_if, steady-child_if, asks-below, asks-child_if}
+use Rattle.layer_laws.specs.Unranged.{regular-unranged, refused-refusing, unranged-regular}
 use Rattle.layer_laws.specs.Unreading.{told-child, unread-may_hold, unread-over_parent}
+use Rattle.layer_laws.specs.Paths.{along-at_end, along-below, along-into_parent}
 use Rattle.free_list_rules.specs.FreeListRules.{cache_size, cache_down, cache_need, cache_allocate, cache_deallocate, cache_expand, cache_is_empty, is_empty, cache_holds, cache_owns_at, free_list_allocate, free_list_offers, free_list_rules}
-use Rattle.free_list_rules.specs.FreeListMeanings.{IsCacheSize}
 use Rattle.free_list_rules.specs.CacheParts.{cache-opened}
 
 -- ---- telling
@@ -104,21 +105,21 @@ front-none : (n : ℕ) (route_of : ℕ → List ℕ) (serve : Serve) (s : State)
 front-none n route_of serve s cells z [] h = h
 front-none n route_of serve s cells z (p ∷ ps) h = refl
 
-none-cache_allocate : (is_cached : Bool) (m n : ℕ) (route_of : State → ℕ → List ℕ) (whole exact : Serve) (s : State) (cells : Cells) (x y : Bool) → 1 ≤ m → 1 ≤ n
+none-cache_allocate : (is_cached : Bool) (m n : ℕ) (route_of : State → ℕ → List ℕ) (whole exact : Serve) (s : State) (cells : Cells) (x y : Bool) → (is_cached ≡ true → 1 ≤ m) → 1 ≤ n
     → is_refusal (whole (child s 0) cells) ≡ (nat_eq m 0 || x) → is_refusal (exact (child s 0) cells) ≡ (nat_eq n 0 || y)
     → is_refusal (cache_allocate is_cached n route_of whole exact s cells) ≡ cond is_cached (cache_is_empty s && x) y
 none-cache_allocate true m n route_of whole exact s cells x y l o h k =
-    front-none n (route_of s) (serve_parent (truncated n) whole) s cells x (cached_of s) (none-parent (truncated n) m whole s cells x l h)
+    front-none n (route_of s) (serve_parent (truncated n) whole) s cells x (cached_of s) (none-parent (truncated n) m whole s cells x (l refl) h)
 none-cache_allocate false m n route_of whole exact s cells x y l o h k = none-parent (λ b. b) n exact s cells y o k
 
-settled-tails : (least greatest : ℕ) (e : Rules) → TailLaws e → RefusingLaws e → (s : State) (cells : Cells) → IsSettled (free_list_rules least greatest e) s cells → e.has_free_tails (child s 0) ≡ true
+settled-tails : (least greatest : ℕ) (e : Rules) → TailLaws e → RefusedLaws e → (s : State) (cells : Cells) → IsSettled (free_list_rules least greatest e) s cells → e.has_free_tails (child s 0) ≡ true
 unfolding free_list_rules
 settled-tails least greatest e w p closed cells h = w.shut
 settled-tails least greatest e w p (open_with own ss) cells h = p.free_tails (child (open_with own ss) 0) cells (cache-opened least greatest e (open_with own ss) cells refl h).below
 
-pub free_list-refusing : (least greatest : ℕ) (e : Rules) → IsCacheSize least greatest → TailLaws e → RefusingLaws e → RefusingLaws (free_list_rules least greatest e)
+pub free_list-refused : (least greatest : ℕ) (e : Rules) → TailLaws e → RefusedLaws e → RefusedLaws (free_list_rules least greatest e)
 unfolding free_list_rules
-free_list-refusing least greatest e z w p =
+free_list-refused least greatest e w p =
     let serve = λ (n : ℕ). cache_allocate (is_between least greatest n) n (λ s p. e.route (block p greatest) (child s 0)) (e.allocate greatest) (e.allocate n) in
     let allocates = λ (n : ℕ). keeps-asked_for n (serve n) (keeps-cache_allocate (is_between least greatest n) n (λ s p. e.route (block p greatest) (child s 0)) (e.allocate greatest) (e.allocate n) (p.allocate greatest) (p.allocate n)) in
     let expands = λ (d : ℕ). keeps-asked_to_expand d (λ b. expand_by_lack (cache_size least greatest b.len) (cache_size least greatest (b.len + d)) e.expand (cache_down least greatest b))
@@ -129,16 +130,26 @@ free_list-refusing least greatest e z w p =
       aligned_allocate = λ n a. keeps-refuse;
       expand = expands;
       reallocate = λ n. keeps-asked_to_reallocate n give _ (keeps-general_reallocate n (free_list_offers e.offers) (cache_expand least greatest e.expand) (free_list_allocate least greatest e n) give expands (allocates n));
-      none = λ n s cells t. none-asked_for n (serve n) s cells _ (λ l m.
-          none-cache_allocate (is_between least greatest n) greatest n (λ s p. e.route (block p greatest) (child s 0)) (e.allocate greatest) (e.allocate n) s cells (e.refuses greatest (child s 0) cells) (e.refuses n (child s 0) cells)
-          (omega (arith, z.word)) l (p.none greatest (child s 0) cells t) (p.none n (child s 0) cells t));
-      none_aligned = λ n a s cells. none-refuse n;
       free_tails = settled-tails least greatest e w p;
       refuses_uncounted = λ n s t cells q.
           rw (same-cached s t q, p.refuses_uncounted greatest (child s 0) (child t 0) cells (same-child s t 0 q), p.refuses_uncounted n (child s 0) (child t 0) cells (same-child s t 0 q)) refl;
       refuses_aligned_uncounted = λ n a s t cells q. refl;
       free_tails_uncounted = λ s t q. p.free_tails_uncounted (child s 0) (child t 0) (same-child s t 0 q);
     }
+
+-- a range with a length of at least 1 byte has such a greatest one
+greatest-some : (least greatest n : ℕ) → 1 ≤ n → is_between least greatest n ≡ true → 1 ≤ greatest
+greatest-some least greatest n l h = grind (arith, nat_tests)
+
+pub free_list-refusing : (least greatest : ℕ) (e : Rules) → RefusingLaws e → RefusedLaws (free_list_rules least greatest e) → RefusingLaws (free_list_rules least greatest e)
+unfolding free_list_rules
+free_list-refusing least greatest e p k =
+    let serve = λ (n : ℕ). cache_allocate (is_between least greatest n) n (λ s p. e.route (block p greatest) (child s 0)) (e.allocate greatest) (e.allocate n) in
+    refused-refusing (free_list_rules least greatest e) k
+    (λ n s cells t. none-asked_for n (serve n) s cells _ (λ l m.
+    none-cache_allocate (is_between least greatest n) greatest n (λ s p. e.route (block p greatest) (child s 0)) (e.allocate greatest) (e.allocate n) s cells (e.refuses greatest (child s 0) cells) (e.refuses n (child s 0) cells)
+    (greatest-some least greatest n l) l (p.none greatest (child s 0) cells t) (p.none n (child s 0) cells t)))
+    (λ n a s cells. none-refuse n)
 
 -- ---- the parent's tails
 
@@ -226,6 +237,14 @@ free_list-openness least greatest e =
 
 -- ---- owning
 
+free_list-along : (least greatest : ℕ) (e : Rules) → OwningLaws e → (path : List ℕ) (possible : Bool) (b : Block) (s : State) → cache_owns_at least greatest e path possible b s ≡ yes_if possible (cache_owns_at least greatest e path true b s)
+free_list-along least greatest e p [] possible b s = along-at_end e.offers.owns (cache_holds least greatest e b s) possible
+free_list-along least greatest e p (i ∷ path) possible b s =
+    let c = cache_down least greatest b in
+    let below = λ (x : Bool). e.owns_at path x c (child s 0) in
+    let fine = is_served_size b.len in
+    along-into_parent i (λ x. below (x && fine)) (along-below fine below (λ x. p.along path x c (child s 0))) possible
+
 pub free_list-owning : (least greatest : ℕ) (e : Rules) → OwningLaws e → OwningLaws (free_list_rules least greatest e)
 unfolding free_list_rules
 free_list-owning least greatest e p =
@@ -235,6 +254,7 @@ free_list-owning least greatest e p =
       not_owned = λ b s. let c = cache_down least greatest b in not_owned-child_if (may_hold b s) 0 (λ d. e.owns c) b s (p.not_owned c (child s 0));
       open_holds = λ b s h. open-may_hold b s (e.holds (cache_down least greatest b) (child s 0)) h;
       holds_uncounted = λ b s t q. let c = cache_down least greatest b in held-same b s t (e.holds c (child s 0)) (e.holds c (child t 0)) q (p.holds_uncounted c (child s 0) (child t 0) (same-child s t 0 q));
+      along = free_list-along least greatest e p;
     }
 
 -- ---- taking
@@ -274,14 +294,18 @@ free_list-taking least greatest e p =
 
 -- ---- the families
 
-pub free_list-regular : (least greatest : ℕ) (e : Rules) → IsCacheSize least greatest → IsRegular e → IsRegular (free_list_rules least greatest e)
-free_list-regular least greatest e z p =
+pub free_list-unranged : (least greatest : ℕ) (e : Rules) → UnrangedLaws e → UnrangedLaws (free_list_rules least greatest e)
+free_list-unranged least greatest e p =
     record {
-      telling = free_list-telling least greatest e p.telling;
       reading = free_list-reading least greatest e p.reading;
-      refusing = free_list-refusing least greatest e z p.tails p.refusing;
+      refused = free_list-refused least greatest e p.tails p.refused;
       tails = free_list-tails least greatest e p.tails;
       openness = free_list-openness least greatest e;
       owning = free_list-owning least greatest e p.owning;
       taking = free_list-taking least greatest e p.taking;
     }
+
+pub free_list-regular : (least greatest : ℕ) (e : Rules) → IsRegular e → IsRegular (free_list_rules least greatest e)
+free_list-regular least greatest e p =
+    let u = free_list-unranged least greatest e (regular-unranged e p) in
+    unranged-regular (free_list_rules least greatest e) u (free_list-telling least greatest e p.telling) (free_list-refusing least greatest e p.refusing u.refused)

@@ -7,6 +7,7 @@ pub mod FreeListFraming
 pub mod FreeListGood
 pub mod FreeListLawful
 pub mod FreeListMeanings
+pub mod FreeListOwning
 pub mod FreeListPlacing
 pub mod FreeListRegular
 pub mod FreeListRules

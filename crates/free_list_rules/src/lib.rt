@@ -3,7 +3,7 @@
 
 ghost use Rattle.free_list_rules.specs.FreeListMeanings.{FreeListIsRegular, FreeListIsLawful, OpenFreeListIsSound, OutOfFreeList, DownHasAllBytes, ImageOfFreeList, ChainIsRead, ChainIsWalked};
 
-/// Where its numbers are proper a free list is regular over a parent that is, and lawful where this is lawful too.
+/// A free list is regular over a parent that is, and where its numbers are proper lawful where this is lawful too.
 pub fn free_list_is_lawful()
     ensures regular { FreeListIsRegular }
     ensures lawful { FreeListIsLawful }

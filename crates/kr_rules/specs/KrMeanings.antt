@@ -21,9 +21,9 @@ pub record IsKrSize (size : ℕ) (e : Rules) : Type 0 where
   pub most : size ≤ size_bound
   pub aligned : 16 ≤ e.alignment
 
--- over a regular parent it is regular
+-- over a regular parent it is regular, whatever its size
 abbrev pub KrIsRegular : Type 0
-KrIsRegular = (size : ℕ) (e : Rules) → IsKrSize size e → IsRegular e → IsRegular (kr_rules size e)
+KrIsRegular = (size : ℕ) (e : Rules) → IsRegular e → IsRegular (kr_rules size e)
 
 -- ---- what holds between calls
 

@@ -22,7 +22,7 @@ use Rattle.layer_rules.specs.declared.Block.{Block}
 use Rattle.layer_laws.specs.Basics.{and-fst, and-snd}
 use Rattle.layer_laws.specs.ChunkLaws.{asked-keeps, child-own, chunk-sets}
 use Rattle.layer_laws.specs.GoodSizes.{power-alignment, served-enough, unserved-above, unserved-zero}
-use Rattle.layer_laws.specs.Lawful.{KeepsOnNone, KeptOnNone, OnlyOwnCells, OpennessLaws, OwningLaws, ReadingLaws, RefusingLaws, TailLaws, TakingLaws, TellingLaws}
+use Rattle.layer_laws.specs.Lawful.{KeepsOnNone, KeptOnNone, OnlyOwnCells, OpennessLaws, OwningLaws, ReadingLaws, RefusedLaws, RefusingLaws, TailLaws, TakingLaws, TellingLaws, UnrangedLaws}
 use Rattle.layer_laws.specs.Owners.{held-same, open-may_hold}
 use Rattle.layer_laws.specs.Reallocations.{keeps-asked_to_expand, keeps-asked_to_reallocate, keeps-general_reallocate, keeps-say}
 use Rattle.layer_laws.specs.Requests.{is_refusal, keeps-asked_for, keeps-refuse, none-asked_for, none-refuse}
@@ -31,7 +31,9 @@ use Rattle.layer_laws.specs.Steps.{chunk-refuses}
 use Rattle.layer_laws.specs.Takings.{TakesOwn, takes-asked_for, takes-refuse, takes-wider, took-chunk}
 use Rattle.layer_laws.specs.Tests.{set-up-opens, takes-none}
 use Rattle.layer_laws.specs.Uncounting.{same-child, same-chunk, same-mode, same-open, same-position, same-units}
+use Rattle.layer_laws.specs.Unranged.{regular-unranged, refused-refusing, unranged-regular}
 use Rattle.layer_laws.specs.Unreading.{unread-chunk, unread-may_hold, unread-over_parent}
+use Rattle.layer_laws.specs.Paths.{along-at_chunk}
 use Rattle.kr_rules.specs.KrMeanings.{KrIsRegular}
 use Rattle.kr_rules.specs.KrParts.{kr-open_parts, tail_if-parts, tail_if-whole}
 use Rattle.kr_rules.specs.KrRules.{has_free_tail_if, kr_allocate, kr_chunk, kr_deallocate, kr_offers, kr_opened, kr_put, kr_rules, kr_tail_fits, read_kr, tail_is_free}
@@ -131,7 +133,7 @@ parent-part : (e : Rules) (s : State) → (on_open s (tail_is_free s) && e.has_f
 parent-part e s h = and-snd (on_open s (tail_is_free s)) (e.has_free_tails (child s 0)) h
 
 -- between calls it has both
-settled-tails : (size : ℕ) (e : Rules) (s : State) (cells : Cells) → RefusingLaws e → TailLaws e → IsSettled (kr_rules size e) s cells → (on_open s (tail_is_free s) && e.has_free_tails (child s 0)) ≡ true
+settled-tails : (size : ℕ) (e : Rules) (s : State) (cells : Cells) → RefusedLaws e → TailLaws e → IsSettled (kr_rules size e) s cells → (on_open s (tail_is_free s) && e.has_free_tails (child s 0)) ≡ true
 settled-tails size e closed cells r t h = t.shut
 settled-tails size e (open_with own ss) cells r t h =
     let s = open_with own ss in
@@ -148,9 +150,9 @@ same-tail s u q =
 same-own_tail : (s u : State) → uncounted s ≡ uncounted u → on_open s (tail_is_free s) ≡ on_open u (tail_is_free u)
 same-own_tail s u q = ap₂ (λ (o x : Bool). elim o as (λ _. Bool) [ true ↦ x | false ↦ true ]) (same-open s u q) (same-tail s u q)
 
-kr-refusing : (size : ℕ) (e : Rules) → RefusingLaws e → TailLaws e → RefusingLaws (kr_rules size e)
+kr-refused : (size : ℕ) (e : Rules) → RefusedLaws e → TailLaws e → RefusedLaws (kr_rules size e)
 unfolding kr_rules
-kr-refusing size e r t =
+kr-refused size e r t =
     let allocates = λ (n : ℕ). keeps-asked_for n (kr_allocate (up n 16) n) (keeps-allocate (up n 16) n) in
     let expands = λ (d : ℕ). keeps-asked_to_expand d (say false) (keeps-say false) in
     record {
@@ -160,15 +162,20 @@ kr-refusing size e r t =
       reallocate = λ n.
           keeps-asked_to_reallocate n kr_deallocate _
           (keeps-general_reallocate n kr_offers (λ d. asked_to_expand d (say false)) (asked_for n (kr_allocate (up n 16) n)) kr_deallocate expands (allocates n));
-      none = λ n s cells h.
-          none-asked_for n (kr_allocate (up n 16) n) s cells (has_no_run (up n 16 / 16) (units_of s))
-          (λ l m. none-allocate (up n 16) n s cells ∙ tail-or-run n s (tail_if-parts (mode_of s) (chunk_of s) (position_of s) (units_of s) (own-tail s (own-part e s h))) l);
-      none_aligned = λ n a s cells. none-refuse n;
       free_tails = λ s cells h. settled-tails size e s cells r t h;
       refuses_uncounted = λ n s u cells q. ap (λ us. over_limit_or n (has_no_run (up n 16 / 16) us)) (same-units s u q);
       refuses_aligned_uncounted = λ n a s u cells q. refl;
       free_tails_uncounted = λ s u q. ap₂ (λ x y. x && y) (same-own_tail s u q) (r.free_tails_uncounted (child s 0) (child u 0) (same-child s u 0 q));
     }
+
+kr-refusing : (size : ℕ) (e : Rules) → RefusedLaws (kr_rules size e) → RefusingLaws (kr_rules size e)
+unfolding kr_rules
+kr-refusing size e k =
+    refused-refusing (kr_rules size e) k
+    (λ n s cells h.
+    none-asked_for n (kr_allocate (up n 16) n) s cells (has_no_run (up n 16 / 16) (units_of s))
+    (λ l m. none-allocate (up n 16) n s cells ∙ tail-or-run n s (tail_if-parts (mode_of s) (chunk_of s) (position_of s) (units_of s) (own-tail s (own-part e s h))) l))
+    (λ n a s cells. none-refuse n)
 
 -- ---- the tails of the kr and of its parent
 
@@ -226,6 +233,7 @@ kr-owning size e = record {
   not_owned = λ b s h. refl;
   open_holds = λ b s h. open-may_hold b s (lies_in b (chunk_of s)) h;
   holds_uncounted = λ b s t q. held-same b s t (lies_in b (chunk_of s)) (lies_in b (chunk_of t)) q (ap (lies_in b) (same-chunk s t q));
+  along = λ path possible b s. along-at_chunk path (may_hold b s && lies_in b (chunk_of s)) possible;
 }
 
 -- ---- taking
@@ -252,14 +260,20 @@ kr-taking size e t =
       deallocate_all_count = λ s cells. refl;
     }
 
--- over a regular parent
-pub kr_is_regular : KrIsRegular
-kr_is_regular size e k r = record {
-  telling = kr-telling size e r.telling;
+-- ---- all of them
+
+pub kr-unranged : (size : ℕ) (e : Rules) → UnrangedLaws e → UnrangedLaws (kr_rules size e)
+kr-unranged size e r = record {
   reading = kr-reading size e r.reading;
-  refusing = kr-refusing size e r.refusing r.tails;
+  refused = kr-refused size e r.refused r.tails;
   tails = kr-tail_laws size e r.tails;
   openness = kr-openness size e;
   owning = kr-owning size e;
   taking = kr-taking size e r.taking;
 }
+
+-- over a regular parent
+pub kr_is_regular : KrIsRegular
+kr_is_regular size e r =
+    let u = kr-unranged size e (regular-unranged e r) in
+    unranged-regular (kr_rules size e) u (kr-telling size e r.telling) (kr-refusing size e u.refused)

@@ -3,7 +3,7 @@
 
 ghost use Rattle.kr_rules.specs.KrMeanings.{KrIsRegular, KrTailFirst, OpenKrIsSound, OpenKrHasImage, OutOfKr};
 
-/// A kr keeps the laws that every layer keeps, over any parent that does.
+/// A kr keeps the laws that every layer keeps, over any parent that does, whatever its size.
 pub fn kr_is_regular()
     ensures { KrIsRegular }
 {}

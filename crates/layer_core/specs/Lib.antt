@@ -3,3 +3,4 @@ pub mod LeafMade
 pub mod LeafModel
 pub mod NullMade
 pub mod NullModel
+pub mod ShortRows

@@ -1,5 +1,5 @@
 // The leaf: runs of free cells, the least one first.
-use crate::{Block, Fact, Layer, Mem, Offers, Refused};
+use crate::{Asked, Block, Fact, Layer, Mem, Offers, Path, Refused};
 use size_round::{LIMIT, up};
 use space_core::{CELL_SIZE, Space};
 
@@ -48,18 +48,60 @@ impl Layer for Mem {
     }
 
     fn allocate(&mut self, space: &mut Space, n: u64) -> Option<Block> {
+        self.aligned_allocate(space, n, 1)
+    }
+
+    fn aligned_allocate(&mut self, space: &mut Space, n: u64, a: u64) -> Option<Block> {
         if n == 0 || n > LIMIT {
             return None;
         }
-        match space.grant(self.tag(), n, 1) {
+        match space.grant(self.tag(), n, a) {
             Some(place) => Some(Block { place, len: n }),
             None => None,
         }
     }
 
+    fn expand(&mut self, space: &mut Space, b: &mut Block, delta: u64) -> bool {
+        if delta == 0 {
+            return true;
+        }
+        if delta > LIMIT - b.len {
+            return false;
+        }
+        if !space.grow(self.tag(), b.place, b.len, delta) {
+            return false;
+        }
+        b.len += delta;
+        true
+    }
+
+    fn reallocate(&mut self, space: &mut Space, b: &mut Block, n: u64) -> bool {
+        self.reallocate_generally(space, b, n)
+    }
+
     fn deallocate(&mut self, space: &mut Space, b: Block) -> bool {
         space.give(self.tag(), b.place, b.len);
         true
+    }
+
+    fn deallocate_all(&mut self, space: &mut Space) {
+        space.give_all(self.tag());
+    }
+
+    fn holds(&self, _b: Block) -> bool {
+        false
+    }
+
+    fn owns(&mut self, _b: Block) -> bool {
+        false
+    }
+
+    fn owns_at(&self, path: &Path, from: usize, _b: Block) -> Asked {
+        if from < path.len() {
+            Asked::NoSuchLayer
+        } else {
+            Asked::NotOffered
+        }
     }
 
     fn extent(&self, b: Block) -> u64 {
@@ -74,6 +116,14 @@ impl Layer for Mem {
         } else {
             Fact::Closed
         }
+    }
+
+    fn state_len(&self, _node: u32) -> u32 {
+        if Mem::is_open(self) { 1 } else { 0 }
+    }
+
+    fn state_number(&self, _node: u32, _k: u32) -> u64 {
+        1
     }
 
     ghost made = { λ l. leaf_made l };

@@ -1,7 +1,7 @@
 // The layer that serves nothing.
 ghost use Rattle.std.specs.Prelude.{◌≡◌};
 
-use crate::{Block, Fact, Layer, Offers, Refused};
+use crate::{Asked, Block, Fact, Layer, Offers, Owning, Path, Refused};
 use space_core::Space;
 
 /// A layer that serves nothing: the end of a composition, or of one of its branches.
@@ -68,8 +68,38 @@ impl Layer for NullLayer {
         None
     }
 
+    fn aligned_allocate(&mut self, _space: &mut Space, _n: u64, _a: u64) -> Option<Block> {
+        None
+    }
+
+    fn expand(&mut self, _space: &mut Space, _b: &mut Block, _delta: u64) -> bool {
+        unreachable!()
+    }
+
+    fn reallocate(&mut self, _space: &mut Space, _b: &mut Block, _n: u64) -> bool {
+        unreachable!()
+    }
+
     fn deallocate(&mut self, _space: &mut Space, _b: Block) -> bool {
         unreachable!()
+    }
+
+    fn deallocate_all(&mut self, _space: &mut Space) {}
+
+    fn holds(&self, _b: Block) -> bool {
+        false
+    }
+
+    fn owns(&mut self, _b: Block) -> bool {
+        false
+    }
+
+    fn owns_at(&self, path: &Path, from: usize, _b: Block) -> Asked {
+        if from < path.len() {
+            Asked::NoSuchLayer
+        } else {
+            Asked::No
+        }
     }
 
     fn extent(&self, _b: Block) -> u64 {
@@ -84,5 +114,19 @@ impl Layer for NullLayer {
         }
     }
 
+    fn state_len(&self, _node: u32) -> u32 {
+        if self.is_set { 1 } else { 0 }
+    }
+
+    fn state_number(&self, _node: u32, _k: u32) -> u64 {
+        1
+    }
+
     ghost made = { λ l. null_made l };
+}
+
+impl Owning for NullLayer {
+    ghost use Rattle.layer_core.specs.NullMade.{null_owning};
+
+    ghost owning = { λ l. null_owning l };
 }

@@ -1,11 +1,13 @@
 -- Children: the children of a state, one by one, and what a child's answer is to its parent.
-use Rattle.std.proofs.Common.{◌≡◌, ◌≢◌, refl, sym, ap, subst, ℕ, zero, suc, ◌≤◌, ◌<◌, ◌⊎◌, inl, inr, true, arith, Option, Some, None, option_map}
+use Rattle.std.proofs.Common.{◌≡◌, ◌≢◌, refl, sym, ap, subst, ◌∙◌, ℕ, zero, suc, ◌≤◌, ◌<◌, ◌⊎◌, inl, inr, true, arith, Option, Some, None, option_map}
 use Rattle.std.proofs.lemmas.Bool.{cases_eq}
 use Rattle.std.proofs.lemmas.Bool.Decides.{nat_tests}
 use Rattle.layer_rules.specs.declared.Block.{Block}
 use Rattle.layer_rules.specs.Blocks.{end_of, is_apart}
 use Rattle.layer_rules.specs.State.{State, closed, open_with, States, no_children, child_and, nth_child, set_child, child, with_child}
 use Rattle.layer_rules.specs.After.{Placed, from_child}
+use Rattle.size_round.specs.SizeMeanings.{IsMultiple}
+use Rattle.layer_laws.specs.Lawful.{AtMultiple}
 
 -- how many children there are
 abbrev pub child_count : States → ℕ
@@ -60,6 +62,13 @@ shown-of i shown None q e = absurd (cc)
 shown-of i shown (Some p) q e =
     let z : from_child shown i p ≡ q = cc in
     record { below = p; answered = refl; block = sym (ap (λ (q : Placed). q.block) z) }
+
+-- a block that is shown at its own place is at a multiple where it was
+pub shown-at_multiple : (i a : ℕ) (shown : Block → Block) (o : Option Placed) → ((p : Placed) → o ≡ Some p → (shown p.block).place ≡ p.block.place) → AtMultiple a o → AtMultiple a (option_map (from_child shown i) o)
+shown-at_multiple i a shown o same m q z =
+    let x = shown-of i shown o q z in
+    let place : x.below.block.place ≡ q.block.place = sym (ap (λ (b : Block). b.place) x.block ∙ same x.below x.answered) in
+    subst (λ n. IsMultiple n a) place (m x.below x.answered)
 
 -- two runs with no number in common lie one behind the other
 pub runs-apart : (a b c d : ℕ) → a < b → c < d → ((i : ℕ) → a ≤ i → i < b → c ≤ i → i < d → ⊥) → (b ≤ c) ⊎ (d ≤ a)

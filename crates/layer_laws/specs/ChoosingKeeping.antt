@@ -1,31 +1,27 @@
 -- Choosing by length: what calls keep and give, over lawful members with tags of their own.
-use Rattle.std.proofs.Common.{◌≡◌, refl, sym, ap, subst, ◌∙◌, ℕ, ◌≤◌, ◌<◌, ◌+◌, ◌-◌, inl, inr, Bool, true, false, ◌&&◌, arith, List, length, nat_eq, Option, option_map}
+use Rattle.std.proofs.Common.{◌≡◌, refl, sym, ap, subst, ◌∙◌, ℕ, ◌≤◌, ◌<◌, ◌+◌, ◌-◌, inl, inr, Bool, true, false, arith, List, length, nat_eq, Option, option_map}
 use Rattle.std.proofs.lemmas.Bool.Decides.{nat_tests}
 use Rattle.space_core.specs.Cells.{Cells}
 use Rattle.layer_rules.specs.declared.Block.{Block}
 use Rattle.layer_rules.specs.Blocks.{with_len}
 use Rattle.layer_rules.specs.State.{State, States, nothing, is_open, child, children_of, open_with, nth_child}
-use Rattle.layer_rules.specs.After.{After, after, Placed, from_child}
+use Rattle.layer_rules.specs.After.{After, after, Placed, from_child, Serve}
 use Rattle.layer_rules.specs.After.{opened as opened_as}
 use Rattle.layer_rules.specs.Expanding.{change_if}
 use Rattle.layer_rules.specs.Rules.{Rules, IsLeaf, IsSettled, AreApart, longer_if}
 use Rattle.layer_rules.specs.Members.{nth, empty_each}
 use Rattle.layer_rules.specs.Choosing.{Choosing, chosen_down, have_one_member, choose_serve, choose_growth, choosing_rules}
-use Rattle.layer_laws.specs.Basics.{and-fst, and-snd}
-use Rattle.layer_laws.specs.Children.{IsShown, shown-of}
+use Rattle.layer_laws.specs.Children.{IsShown, shown-of, shown-at_multiple}
 use Rattle.layer_laws.specs.Chooses.{AreMembers}
-use Rattle.layer_laws.specs.Lawful.{IsGood, Good, IsFreed, Freeing, IsGrown, Growing, IsEmptied, Emptying, OnlyOwnCells, KeepingLaws}
-use Rattle.layer_laws.specs.MembersLawful.{leaf-in, beside, some-member, GroupParts, are-from, out-some, kept-taken, kept-freed, members-emptied}
-use Rattle.layer_laws.specs.ChoosingParts.{out-chosen, chosen-out, chosen-opened, extent-member, apart-member, IsMemberChanged, with_member, changed-sound, changed-extents, changed-out, changed-stays, changed-fresh}
-use Rattle.layer_laws.specs.Steps.{refuse-good, asked-good, kept-short, kept-long, asked-grown, longer-some}
+use Rattle.layer_laws.specs.Lawful.{IsGood, Good, IsFreed, Freeing, IsGrown, Growing, IsEmptied, Emptying, OnlyOwnCells, KeepingLaws, IsAlignedGood, AtMultiple, AlignedGood}
+use Rattle.layer_laws.specs.MembersLawful.{leaf-in, some-member, GroupParts, are-from, out-some, kept-taken, kept-freed, members-emptied}
+use Rattle.layer_laws.specs.ChoosingReallocated.{choosing-reallocated}
+use Rattle.layer_laws.specs.Unranged.{regular-unranged}
+use Rattle.layer_laws.specs.ChoosingRegular.{choosing-taking}
+use Rattle.layer_laws.specs.ChoosingParts.{shown-back, other-tags, HaveOneMember, one-member, asked-as_one, out-chosen, chosen-opened, apart-member, IsMemberChanged, with_member, changed-sound, changed-extents, changed-out, changed-stays, changed-fresh, changed-routes}
+use Rattle.layer_laws.specs.Steps.{refuse-good, asked-good, kept-short, kept-long, asked-grown, longer-some, asked-aligned}
+use Rattle.layer_laws.specs.ChoosingOwning.{choosing-owned}
 use Rattle.layer_laws.specs.Tests.{some-open}
-
--- a block that the member gave is handed down as it gave it
-shown-back : (h : Choosing) (n : ℕ) (b : Block) → b.len ≡ h.asked n → chosen_down h (with_len b n) ≡ b
-shown-back h n b q = ap (with_len b) (sym q)
-
-other : (es : List Rules) (i : ℕ) (h : Choosing) (w : AreMembers h es) (j : ℕ) → (j ≡ i → ⊥) → (t : ℕ) → IsLeaf (nth es i) t → IsLeaf (nth es j) t → ⊥
-other es i h w j n t x y = beside es i j t w.own.distinct (λ e. n (sym e)) x y
 
 -- ---- a request
 
@@ -42,7 +38,7 @@ member-serves h es i ss cells n r w l f mf li p taken g =
       is_set = g.is_set;
       settled = g.settled;
       extents = g.extents;
-      others = λ j k. kept-taken e (nth es j) cells r.cells (some-member es j w.own) (other es i h w j k) taken;
+      others = λ j k. kept-taken e (nth es j) cells r.cells (some-member es j w.own) (other-tags es i h w j k) taken;
     } in
     let block_of = λ (q : Placed) (x : IsShown i (h.shown n) r.answer q). let y : q.block ≡ with_len x.below.block n = x.block ∙ w.chooses.shown n x.below.block (g.len x.below x.answered) in y in
     let out_of = λ (q : Placed) (x : IsShown i (h.shown n) r.answer q).
@@ -52,6 +48,7 @@ member-serves h es i ss cells n r w l f mf li p taken g =
       is_set = refl;
       settled = changed-sound h es i ss r.state cells r.cells w m;
       extents = λ b. changed-extents h es i ss r.state cells r.cells m b;
+      routes = λ b o. changed-routes h es i ss r.state cells r.cells m b o (λ y z x. g.routes (chosen_down h b) x);
       stays = λ b o. changed-stays h es i ss r.state cells r.cells w m b o (λ y z x. g.stays (chosen_down h b) x);
       len = λ q z. let x = shown-of i (h.shown n) r.answer q z in ap (λ (b : Block). b.len) (block_of q x);
       out = λ q z.
@@ -64,23 +61,50 @@ member-serves h es i ss cells n r w l f mf li p taken g =
           (λ y z u. subst (λ c. AreApart e (nth_child ss i) c (chosen_down h b)) (sym (shown-back h n x.below.block (g.len x.below x.answered))) (g.fresh x.below x.answered (chosen_down h b) u)));
     }
 
-serve-case : (h : Choosing) (es : List Rules) (ss : States) (cells : Cells) (n : ℕ) (q : Bool) → h.fits n ≡ q → AreMembers h es → 1 ≤ n → GroupParts es (open_with nothing ss) cells → IsSettled (choosing_rules h es) (open_with nothing ss) cells
-    → IsGood (choosing_rules h es) (open_with nothing ss) cells n (choose_serve q (h.shown n) (h.chosen n) ((nth es (h.chosen n)).allocate (h.asked n)) (open_with nothing ss) cells)
-serve-case h es ss cells n false f w l p s = refuse-good (choosing_rules h es) n (open_with nothing ss) cells refl s
-serve-case h es ss cells n true f w l p s =
-    let i = h.chosen n in
-    let li = w.chooses.there n f in
-    let t = nth_child ss i in
-    let m = h.asked n in
-    member-serves h es i ss cells n ((nth es i).allocate m t cells) w l f refl li p ((w.regular i).taking.allocate m t cells) ((w.lawful i).keeping.good m t cells (p.all_open i li) (p.settled i li))
+-- the state of the member for n
+abbrev member_state : Choosing → States → (n : ℕ) → State
+member_state h ss n = nth_child ss (h.chosen n)
+
+serve-case : (h : Choosing) (es : List Rules) (ss : States) (cells : Cells) (n : ℕ) (serve : Serve) (q : Bool) → h.fits n ≡ q → AreMembers h es → 1 ≤ n → GroupParts es (open_with nothing ss) cells → IsSettled (choosing_rules h es) (open_with nothing ss) cells
+    → OnlyOwnCells (nth es (h.chosen n)) cells (serve (member_state h ss n) cells).cells → (h.fits n ≡ true → IsGood (nth es (h.chosen n)) (member_state h ss n) cells (h.asked n) (serve (member_state h ss n) cells))
+    → IsGood (choosing_rules h es) (open_with nothing ss) cells n (choose_serve q (h.shown n) (h.chosen n) serve (open_with nothing ss) cells)
+serve-case h es ss cells n serve false f w l p s taken g = refuse-good (choosing_rules h es) n (open_with nothing ss) cells refl s
+serve-case h es ss cells n serve true f w l p s taken g =
+    member-serves h es (h.chosen n) ss cells n (serve (member_state h ss n) cells) w l f refl (w.chooses.there n f) p taken (g f)
 
 choosing-good : (h : Choosing) (es : List Rules) → AreMembers h es → Good (choosing_rules h es)
 unfolding choosing_rules
 choosing-good h es w n s cells o z =
     let f = choosing_rules h es in
     let x = chosen-opened h es s cells o z in
+    let i = h.chosen n in
+    let m = h.asked n in
     subst (λ s. IsSettled f s cells → is_open s ≡ true → GroupParts es s cells → IsGood f s cells n (f.allocate n s cells)) (sym x.form)
-    (λ z o x. asked-good f n _ _ cells o z (λ l m. serve-case h es (children_of s) cells n _ refl w l x z)) z o x
+    (λ z o x. asked-good f n _ _ cells o z (λ l _. serve-case h es (children_of s) cells n _ _ refl w l x z ((w.regular i).taking.allocate m (child s i) cells)
+    (λ q. let li = w.chooses.there n q in (w.lawful i).keeping.good m (child s i) cells (x.all_open i li) (x.settled i li)))) z o x
+
+-- at a multiple where the member serves it there
+multiple-case : (h : Choosing) (es : List Rules) (ss : States) (cells : Cells) (n a : ℕ) (serve : Serve) (q : Bool) → h.fits n ≡ q → AreMembers h es
+    → (h.fits n ≡ true → IsAlignedGood (nth es (h.chosen n)) (member_state h ss n) cells (h.asked n) a (serve (member_state h ss n) cells))
+    → AtMultiple a (choose_serve q (h.shown n) (h.chosen n) serve (open_with nothing ss) cells).answer
+multiple-case h es ss cells n a serve false f w g = λ p z. absurd (cc)
+multiple-case h es ss cells n a serve true f w g =
+    let r = serve (member_state h ss n) cells in
+    shown-at_multiple (h.chosen n) a (h.shown n) r.answer (λ p z. ap (λ (b : Block). b.place) (w.chooses.shown n p.block ((g f).good.len p z))) (g f).aligned
+
+choosing-aligned_good : (h : Choosing) (es : List Rules) → AreMembers h es → AlignedGood (choosing_rules h es)
+unfolding choosing_rules
+choosing-aligned_good h es w n a s cells p k o z =
+    let f = choosing_rules h es in
+    let x = chosen-opened h es s cells o z in
+    let i = h.chosen n in
+    let m = h.asked n in
+    let g = λ (q : h.fits n ≡ true). let li = w.chooses.there n q in (w.lawful i).keeping.aligned m a (child s i) cells p k (x.all_open i li) (x.settled i li) in
+    subst (λ s. IsSettled f s cells → is_open s ≡ true → GroupParts es s cells → IsAlignedGood f s cells n a (f.aligned_allocate n a s cells)) (sym x.form)
+    (λ z o x. asked-aligned f n a _ _ cells o z (λ l _. record {
+      good = serve-case h es (children_of s) cells n _ _ refl w l x z ((w.regular i).taking.aligned_allocate m a (child s i) cells) (λ q. (g q).good);
+      aligned = multiple-case h es (children_of s) cells n a _ _ refl w g;
+    })) z o x
 
 -- ---- a block is given back
 
@@ -95,12 +119,13 @@ member-freed h es i ss cells b r w f at_i li p g =
       is_set = g.is_set;
       settled = g.settled;
       extents = g.extents;
-      others = λ j k. kept-freed (nth es j) (IsLeaf (nth es i)) cells r.cells (some-member es j w.own) (other es i h w j k) g.table;
+      others = λ j k. kept-freed (nth es j) (IsLeaf (nth es i)) cells r.cells (some-member es j w.own) (other-tags es i h w j k) g.table;
     } in
     record {
       is_set = refl;
       settled = changed-sound h es i ss r.state cells r.cells w m;
       extents = λ c. changed-extents h es i ss r.state cells r.cells m c;
+      routes = λ c o a. changed-routes h es i ss r.state cells r.cells m c o (λ k e x. g.routes (chosen_down h c) x (apart-member h es b c (open_with nothing ss) i f k at_i e a));
       stays = λ c o a. changed-stays h es i ss r.state cells r.cells w m c o (λ k e x. g.stays (chosen_down h c) x (apart-member h es b c (open_with nothing ss) i f k at_i e a));
       table = λ c. elim (g.table c) [ inl z ↦ inl z | inr z ↦ inr (z.0, leaf-in es i _ z.1) ];
     }
@@ -146,7 +171,7 @@ member-grows h es i ss cells b delta r w f f_new at_i at_new some li p g =
       is_set = g.is_set;
       settled = g.settled;
       extents = g.extents;
-      others = λ j k. kept-taken e (nth es j) cells r.cells (some-member es j w.own) (other es i h w j k) g.table;
+      others = λ j k. kept-taken e (nth es j) cells r.cells (some-member es j w.own) (other-tags es i h w j k) g.table;
     } in
     let fits = grown-length (λ n. h.fits n ≡ true) r.answer delta b f f_new in
     let chosen = grown-length (λ n. h.chosen n ≡ i) r.answer delta b at_i at_new in
@@ -157,6 +182,7 @@ member-grows h es i ss cells b delta r w f f_new at_i at_new some li p g =
       is_set = refl;
       settled = changed-sound h es i ss r.state cells r.cells w m;
       extents = λ c. changed-extents h es i ss r.state cells r.cells m c;
+      routes = λ c o a. changed-routes h es i ss r.state cells r.cells m c o (λ k y x. g.routes (chosen_down h c) x (λ z. apart-member h es b c old i f k at_i y (a z)));
       stays = λ c o a. changed-stays h es i ss r.state cells r.cells w m c o (λ k y x. g.stays (chosen_down h c) x (λ z. apart-member h es b c old i f k at_i y (a z)));
       out = changed-out h es i ss r.state cells r.cells m grown (longer-some r.answer delta b some) fits chosen out;
       fresh = λ c o a. changed-fresh h es i ss r.state cells r.cells w m grown fits chosen out c o
@@ -164,36 +190,13 @@ member-grows h es i ss cells b delta r w f f_new at_i at_new some li p g =
       table = record { count = g.table.count; each = λ c. elim (g.table.each c) [ inl z ↦ inl z | inr z ↦ inr (z.0, leaf-in es i _ z.1) ] };
     }
 
--- two lengths of one member
-pub record HaveOneMember (h : Choosing) (m n : ℕ) : Type 0 where
-  pub less : h.fits m ≡ true
-  pub more : h.fits n ≡ true
-  pub same : h.chosen m ≡ h.chosen n
-
-pub one-member : (h : Choosing) (m n : ℕ) → have_one_member h m n ≡ true → HaveOneMember h m n
-one-member h m n q =
-    let r = and-snd (h.fits m) (h.fits n && nat_eq (h.chosen m) (h.chosen n)) q in
-    let z = and-snd (h.fits n) (nat_eq (h.chosen m) (h.chosen n)) r in
-    record { less = and-fst (h.fits m) (h.fits n && nat_eq (h.chosen m) (h.chosen n)) q; more = and-fst (h.fits n) (nat_eq (h.chosen m) (h.chosen n)) r; same = grind (arith, nat_tests) }
-
 -- both lengths are asked as one
 grows-enough : (h : Choosing) (es : List Rules) (b : Block) (delta : ℕ) (s : State) (cells : Cells) → HaveOneMember h b.len (b.len + delta) → h.asked b.len ≡ h.asked (b.len + delta)
     → is_open s ≡ true → IsSettled (choosing_rules h es) s cells → (choosing_rules h es).is_out b s cells ≡ true → IsGrown (choosing_rules h es) s cells b delta (after true s cells)
 grows-enough h es b delta s cells one q o z x =
-    let f = choosing_rules h es in
-    let c = with_len b (b.len + delta) in
-    let i = h.chosen b.len in
     let y = out-chosen h es b s cells x in
-    let some = y.some in
-    let same : chosen_down h b ≡ chosen_down h c = ap (with_len b) q in
-    kept-long f s cells b delta o z
-    (chosen-out h es c s cells (record {
-      is_set = o;
-      some = omega arith;
-      fits = one.more;
-      below = subst (λ k. (nth es k).is_out (chosen_down h c) (child s k) cells ≡ true) one.same (subst (λ d. (nth es i).is_out d (child s i) cells ≡ true) same y.below);
-    }))
-    (extent-member h es c s i one.more (sym one.same) ∙ ap (λ d. (nth es i).extent d (child s i)) (sym same) ∙ sym (extent-member h es b s i one.less refl))
+    let v = asked-as_one h es b (b.len + delta) s cells one q (omega (arith, y.some)) y in
+    kept-long (choosing_rules h es) s cells b delta o z v.out v.extent
 
 -- the member's own growth, where that is offered
 growth-case : (h : Choosing) (es : List Rules) (ss : States) (cells : Cells) (b : Block) (delta : ℕ) (q z : Bool) → have_one_member h b.len (b.len + delta) ≡ q → nat_eq (h.asked b.len) (h.asked (b.len + delta)) ≡ z → AreMembers h es
@@ -244,11 +247,16 @@ choosing-emptied h es w s cells o z =
 
 pub choosing-keeping : (h : Choosing) (es : List Rules) → AreMembers h es → KeepingLaws (choosing_rules h es)
 unfolding choosing_rules
-choosing-keeping h es w = record {
-  out_some = λ b s cells o. (out-chosen h es b s cells o).some;
-  out_open = λ b s cells o. some-open (is_open s) _ _ o;
-  good = choosing-good h es w;
-  freed = choosing-freed h es w;
-  grown = choosing-grown h es w;
-  emptied = choosing-emptied h es w;
-}
+choosing-keeping h es w =
+    let some = λ (b : Block) (s : State) (cells : Cells) (o : (choosing_rules h es).is_out b s cells ≡ true). (out-chosen h es b s cells o).some in
+    record {
+      out_some = some;
+      out_open = λ b s cells o. some-open (is_open s) _ _ o;
+      good = choosing-good h es w;
+      freed = choosing-freed h es w;
+      grown = choosing-grown h es w;
+      emptied = choosing-emptied h es w;
+      reallocated = choosing-reallocated h es w (record { some = some; takes = (choosing-taking h es (λ i. regular-unranged (nth es i) (w.regular i))).allocate; good = choosing-good h es w; freed = choosing-freed h es w; grown = choosing-grown h es w });
+      aligned = choosing-aligned_good h es w;
+      owned = choosing-owned h es w;
+    }

@@ -1,20 +1,42 @@
 -- Choosing by length: what it says that a block is out, that a group is sound, and that one member changed.
-use Rattle.std.proofs.Common.{◌≡◌, refl, sym, ap, subst, ◌∙◌, ℕ, ◌≤◌, ◌<◌, inl, inr, Bool, true, false, ◌&&◌, arith, List, length, cond, nat_le}
+use Rattle.std.proofs.Common.{◌≡◌, refl, sym, ap, subst, ◌∙◌, ℕ, ◌≤◌, ◌<◌, inl, inr, Bool, true, false, ◌&&◌, arith, List, length, cond, nat_eq, nat_le, ◌∷◌}
 use Rattle.std.proofs.lemmas.Bool.{and_from, cases_eq}
 use Rattle.std.proofs.lemmas.Bool.Decides.{nat_tests}
 use Rattle.space_core.specs.Cells.{Cells}
 use Rattle.layer_rules.specs.declared.Block.{Block}
-use Rattle.layer_rules.specs.Blocks.{no_block, is_apart}
+use Rattle.layer_rules.specs.Blocks.{no_block, with_len, is_apart}
 use Rattle.layer_rules.specs.State.{State, nothing, is_open, child, open_with, States, nth_child, set_child}
-use Rattle.layer_rules.specs.Rules.{Rules, IsSettled, AreApart}
+use Rattle.layer_rules.specs.Rules.{Rules, IsLeaf, IsSettled, AreApart}
 use Rattle.layer_rules.specs.Members.{nth, tags_of, group_settled}
-use Rattle.layer_rules.specs.Choosing.{Choosing, chosen_down, choosing_rules}
+use Rattle.layer_rules.specs.Choosing.{Choosing, chosen_down, have_one_member, choosing_rules}
 use Rattle.layer_laws.specs.Basics.{and-fst, and-snd}
 use Rattle.layer_laws.specs.Children.{child_count, child-case}
 use Rattle.layer_laws.specs.Chooses.{AreMembers}
 use Rattle.layer_laws.specs.Lawful.{TagsKept}
 use Rattle.layer_laws.specs.MembersLawful.{GroupParts, group-parts, changed-settled, out-some, covered-apart, beside}
 use Rattle.layer_laws.specs.Tests.{opened}
+
+-- ---- members and lengths
+
+-- a block that the member gave is handed down as it gave it
+pub shown-back : (h : Choosing) (n : ℕ) (b : Block) → b.len ≡ h.asked n → chosen_down h (with_len b n) ≡ b
+shown-back h n b q = ap (with_len b) (sym q)
+
+-- two members have no tag in common
+pub other-tags : (es : List Rules) (i : ℕ) (h : Choosing) (w : AreMembers h es) (j : ℕ) → (j ≡ i → ⊥) → (t : ℕ) → IsLeaf (nth es i) t → IsLeaf (nth es j) t → ⊥
+other-tags es i h w j n t x y = beside es i j t w.own.distinct (λ e. n (sym e)) x y
+
+-- two lengths of one member
+pub record HaveOneMember (h : Choosing) (m n : ℕ) : Type 0 where
+  pub less : h.fits m ≡ true
+  pub more : h.fits n ≡ true
+  pub same : h.chosen m ≡ h.chosen n
+
+pub one-member : (h : Choosing) (m n : ℕ) → have_one_member h m n ≡ true → HaveOneMember h m n
+one-member h m n q =
+    let r = and-snd (h.fits m) (h.fits n && nat_eq (h.chosen m) (h.chosen n)) q in
+    let z = and-snd (h.fits n) (nat_eq (h.chosen m) (h.chosen n)) r in
+    record { less = and-fst (h.fits m) (h.fits n && nat_eq (h.chosen m) (h.chosen n)) q; more = and-fst (h.fits n) (nat_eq (h.chosen m) (h.chosen n)) r; same = grind (arith, nat_tests) }
 
 -- ---- a block that is out
 
@@ -69,6 +91,27 @@ extent-member h es b s i f q =
 pub apart-member : (h : Choosing) (es : List Rules) (b c : Block) (s : State) (i : ℕ) → h.fits b.len ≡ true → h.fits c.len ≡ true → h.chosen b.len ≡ i → h.chosen c.len ≡ i → AreApart (choosing_rules h es) s b c
     → AreApart (nth es i) (child s i) (chosen_down h b) (chosen_down h c)
 apart-member h es b c s i f g p q a = record { either = rw (← extent-member h es b s i f p, ← extent-member h es c s i g q) a.either }
+
+-- a block with another length that its member is asked as the same
+pub record IsSeenAsBefore (e : Rules) (b : Block) (n : ℕ) (s : State) (cells : Cells) : Type 0 where
+  pub out : e.is_out (with_len b n) s cells ≡ true
+  pub extent : e.extent (with_len b n) s ≡ e.extent b s
+
+pub asked-as_one : (h : Choosing) (es : List Rules) (b : Block) (n : ℕ) (s : State) (cells : Cells) → HaveOneMember h b.len n → h.asked b.len ≡ h.asked n → 1 ≤ n → IsOutChosen h es b s cells
+    → IsSeenAsBefore (choosing_rules h es) b n s cells
+asked-as_one h es b n s cells one q l y =
+    let c = with_len b n in
+    let i = h.chosen b.len in
+    let same : chosen_down h b ≡ chosen_down h c = ap (with_len b) q in
+    record {
+      out = chosen-out h es c s cells (record {
+        is_set = y.is_set;
+        some = l;
+        fits = one.more;
+        below = subst (λ k. (nth es k).is_out (chosen_down h c) (child s k) cells ≡ true) one.same (subst (λ d. (nth es i).is_out d (child s i) cells ≡ true) same y.below);
+      });
+      extent = extent-member h es c s i one.more (sym one.same) ∙ ap (λ d. (nth es i).extent d (child s i)) (sym same) ∙ sym (extent-member h es b s i one.less refl);
+    }
 
 -- ---- one member changed
 
@@ -133,6 +176,20 @@ changed-stays h es i ss t old new w m c o f =
           (λ e. subst (λ k. (nth es k).is_out (chosen_down h c) t new ≡ true) (sym e) (f x.fits e (out-member h es c (open_with nothing ss) old i e x)))
           (λ n. (w.lawful j).placing.out_tags (chosen_down h c) (nth_child ss j) old new (m.others j n) x.below);
     })
+
+-- and so is its route where that of the changed member's own blocks is the same
+pub changed-routes : (h : Choosing) (es : List Rules) (i : ℕ) (ss : States) (t : State) (old new : Cells) → IsMemberChanged es i ss t old new → (c : Block) → (choosing_rules h es).is_out c (open_with nothing ss) old ≡ true
+    → (h.fits c.len ≡ true → h.chosen c.len ≡ i → (nth es i).is_out (chosen_down h c) (nth_child ss i) old ≡ true → (nth es i).route (chosen_down h c) t ≡ (nth es i).route (chosen_down h c) (nth_child ss i))
+    → (choosing_rules h es).route c (with_member i ss t) ≡ (choosing_rules h es).route c (open_with nothing ss)
+unfolding choosing_rules
+changed-routes h es i ss t old new m c o f =
+    let j = h.chosen c.len in
+    let d = chosen_down h c in
+    let x = out-chosen h es c (open_with nothing ss) old o in
+    ap (λ r. j ∷ r)
+    (child-case ss i t (λ u. (nth es j).route d u ≡ (nth es j).route d (nth_child ss j)) j (in-count es i ss t old new m)
+    (λ e. subst (λ k. (nth es k).route d t ≡ (nth es k).route d (nth_child ss k)) (sym e) (f x.fits e (out-member h es c (open_with nothing ss) old i e x)))
+    (λ n. refl))
 
 -- a block that the changed member has now is apart from each that was out, where it is apart from its own
 pub changed-fresh : (h : Choosing) (es : List Rules) (i : ℕ) (ss : States) (t : State) (old new : Cells) → AreMembers h es → IsMemberChanged es i ss t old new → (b : Block) → h.fits b.len ≡ true → h.chosen b.len ≡ i

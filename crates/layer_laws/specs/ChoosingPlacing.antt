@@ -10,8 +10,8 @@ use Rattle.layer_rules.specs.After.{Opened}
 use Rattle.layer_rules.specs.Rules.{Rules, IsSettled, HasSomeTags}
 use Rattle.layer_rules.specs.Members.{nth, open_each, group_settled}
 use Rattle.layer_rules.specs.Choosing.{Choosing, chosen_down, choosing_rules}
-use Rattle.layer_laws.specs.Chooses.{ChoosingIsLawful, Chooses, EachMember, HaveOwnTags, AreMembers}
-use Rattle.layer_laws.specs.Lawful.{Covering, Routing, Aligning, OutTags, SettledTags, TagsKept, PlacingLaws, OwnFraming, Framing, Framed, Any, IsSameOrApart, FramingLaws, Opens, OpeningLaws, IsRegular, IsLawful}
+use Rattle.layer_laws.specs.Chooses.{ChoosingIsLawful, AreMembers}
+use Rattle.layer_laws.specs.Lawful.{Covering, Routing, Aligning, OutTags, SettledTags, TagsKept, PlacingLaws, OwnFraming, Framing, Framed, Any, IsSameOrApart, FramingLaws, Opens, OpeningLaws}
 use Rattle.layer_laws.specs.MembersLawful.{all-regular, all-lawful, leaf-in, beside, group-parts, are-from, out-some, read-at, read-same, image-at, images-from, other-kept, least-multiple, opens-each, group-ok}
 use Rattle.layer_laws.specs.ChoosingParts.{out-chosen, chosen-out, chosen-opened, extent-member, apart-member}
 use Rattle.layer_laws.specs.ChoosingKeeping.{choosing-keeping}

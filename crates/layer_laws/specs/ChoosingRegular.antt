@@ -15,9 +15,9 @@ use Rattle.layer_rules.specs.Rules.{Rules, IsSettled}
 use Rattle.layer_rules.specs.Unread.{unread}
 use Rattle.layer_rules.specs.Members.{nth, offers_of_all, open_each, into_member, have_free_tails, read_each}
 use Rattle.layer_rules.specs.Choosing.{Choosing, chosen_down, have_one_member, choose_serve, choose_growth, choose_expand, choose_deallocate, choose_allocate, choose_within, choose_holds, choose_owns_at, choosing_rules}
-use Rattle.layer_laws.specs.Chooses.{ChoosingIsRegular, Chooses, EachMember, EachNumber}
-use Rattle.layer_laws.specs.Lawful.{TellingLaws, ReadingLaws, RefusingLaws, TailLaws, KeepsOnNone, KeepsOnFalse, KeepsUnmoved, OpennessLaws, OwningLaws, TakingLaws, IsRegular}
-use Rattle.layer_laws.specs.MembersLawful.{facts-of_each, all-regular, leaf-in, group-parts, least-is-alignment, took-each, refuses-each, tails-at, tails-from, tails-uncounted, tails-with_child, tails-opened, count-empty_each, group-ok, unread-read_each, stays-empty_each}
+use Rattle.layer_laws.specs.Chooses.{ChoosingIsRegular, Chooses, EachNumber, EachMember}
+use Rattle.layer_laws.specs.Lawful.{TellingLaws, ReadingLaws, RefusingLaws, TailLaws, KeepsOnNone, KeepsOnFalse, KeepsUnmoved, OpennessLaws, OwningLaws, TakingLaws, IsRegular, RefusedLaws, UnrangedLaws, yes_if}
+use Rattle.layer_laws.specs.MembersLawful.{facts-of_each, all-regular, leaf-in, group-parts, least-is-alignment, took-each, refuses-each, tails-at, tails-from, tails-uncounted, tails-with_child, tails-opened, count-empty_each, group-ok, unread-read_each, stays-empty_each, all-unranged}
 use Rattle.layer_laws.specs.Owners.{AsksUnread, asks-below, asks-child_if, owned-child_both, open-may_hold, not_owned-child_if, steady-child_if}
 use Rattle.layer_laws.specs.Reallocations.{keeps-asked_to_expand, keeps-change_child, keeps-change_if, keeps-stay, keeps-in_place, keeps-asked_to_reallocate, keeps-general_reallocate, keeps-reallocate_child, keeps-either_reallocate}
 use Rattle.layer_laws.specs.Requests.{is_refusal, keeps-refuse, keeps-asked_for, keeps-serve_member, none-asked_for, none-member}
@@ -26,7 +26,9 @@ use Rattle.layer_laws.specs.Steps.{group-refuses}
 use Rattle.layer_laws.specs.Takings.{TakesOwn, takes-refuse, takes-asked_for, takes-serve_member, took-group}
 use Rattle.layer_laws.specs.Tests.{set-up-opens}
 use Rattle.layer_laws.specs.Uncounting.{same-child, same-may_hold}
+use Rattle.layer_laws.specs.Unranged.{regular-unranged, refused-refusing, unranged-regular}
 use Rattle.layer_laws.specs.Unreading.{told-child, unread-may_hold, unread-if_set_up}
+use Rattle.layer_laws.specs.Paths.{along-at_end, along-below, along-into_member}
 
 -- ---- telling
 
@@ -42,7 +44,7 @@ choosing-telling h es c w = record {
 
 -- ---- reading
 
-asks-unread : (h : Choosing) (es : List Rules) → EachNumber IsRegular es → (b : Block) (s : State) → AsksUnread (choosing_rules h es).owns b s
+asks-unread : (h : Choosing) (es : List Rules) → EachNumber UnrangedLaws es → (b : Block) (s : State) → AsksUnread (choosing_rules h es).owns b s
 unfolding choosing_rules
 asks-unread h es w b s =
     let i = h.chosen b.len in
@@ -50,23 +52,23 @@ asks-unread h es w b s =
     let r = asks-child_if (λ d t. may_hold b t && h.fits b.len) i (λ d. (nth es i).owns c) b s (ap (λ x. x && h.fits b.len) (unread-may_hold b s)) (asks-below (nth es i) (w i).reading c b (child s i)) in
     record { owned = r.owned; state = r.state }
 
-choosing-holds : (h : Choosing) (es : List Rules) → EachNumber IsRegular es → (b : Block) (s : State) → choose_holds h es b (unread s) ≡ choose_holds h es b s
+choosing-holds : (h : Choosing) (es : List Rules) → EachNumber UnrangedLaws es → (b : Block) (s : State) → choose_holds h es b (unread s) ≡ choose_holds h es b s
 choosing-holds h es w b s =
     let i = h.chosen b.len in
     ap₂ (λ x y. x && (h.fits b.len && y)) (unread-may_hold b s) (told-child ((nth es i).holds (chosen_down h b)) s i (λ t. (w i).reading.holds (chosen_down h b) t))
 
-choosing-owns_at : (h : Choosing) (es : List Rules) → EachNumber IsRegular es → (path : List ℕ) (possible : Bool) (b : Block) (s : State) → choose_owns_at h es path possible b (unread s) ≡ choose_owns_at h es path possible b s
+choosing-owns_at : (h : Choosing) (es : List Rules) → EachNumber UnrangedLaws es → (path : List ℕ) (possible : Bool) (b : Block) (s : State) → choose_owns_at h es path possible b (unread s) ≡ choose_owns_at h es path possible b s
 choosing-owns_at h es w [] possible b s = ap (at_end (offers_of_all es).owns possible) (choosing-holds h es w b s)
 choosing-owns_at h es w (i ∷ path) possible b s =
     let able = possible && (is_served_size b.len && h.fits b.len) in
     let c = chosen_down h b in
     ap (into_member es i) (told-child ((nth es i).owns_at path able c) s i (λ t. (w i).reading.owns_at path able c t))
 
-choosing-reading : (h : Choosing) (es : List Rules) → EachNumber IsRegular es → ReadingLaws (choosing_rules h es)
+choosing-reading : (h : Choosing) (es : List Rules) → EachNumber UnrangedLaws es → ReadingLaws (choosing_rules h es)
 unfolding choosing_rules
 choosing-reading h es w = record {
   opens_as_fields = λ fs bytes. set-up-opens fs _ _;
-  read = λ fs x y. unread-if_set_up fs nothing nothing (read_each es 0 fs x) (read_each es 0 fs y) refl (unread-read_each es 0 fs x y w);
+  read = λ fs x y. unread-if_set_up fs nothing nothing (read_each es 0 fs x) (read_each es 0 fs y) refl (unread-read_each es 0 fs x y (λ i. (w i).reading));
   holds = choosing-holds h es w;
   route = λ b s. let i = h.chosen b.len in ap (λ r. i ∷ r) (told-child ((nth es i).route (chosen_down h b)) s i (λ t. (w i).reading.route (chosen_down h b) t));
   routed = λ b s. let i = h.chosen b.len in ap (λ x. is_plausible b && (h.fits b.len && x)) (told-child ((nth es i).is_routed (chosen_down h b)) s i (λ t. (w i).reading.routed (chosen_down h b) t));
@@ -86,39 +88,39 @@ keeps-choose_growth : (q : Bool) (i : ℕ) (change : Change) → KeepsOnFalse ch
 keeps-choose_growth true i change k b s cells e = absurd (cc)
 keeps-choose_growth false i change k b s cells e = keeps-change_child i change k b s cells e
 
-keeps-choose_allocate : (h : Choosing) (es : List Rules) → EachNumber IsRegular es → (n : ℕ) → KeepsOnNone (choose_allocate h es n)
+keeps-choose_allocate : (h : Choosing) (es : List Rules) → EachNumber UnrangedLaws es → (n : ℕ) → KeepsOnNone (choose_allocate h es n)
 keeps-choose_allocate h es w n =
     let i = h.chosen n in
-    keeps-asked_for n _ (keeps-choose_serve (h.fits n) (h.shown n) i ((nth es i).allocate (h.asked n)) ((w i).refusing.allocate (h.asked n)))
+    keeps-asked_for n _ (keeps-choose_serve (h.fits n) (h.shown n) i ((nth es i).allocate (h.asked n)) ((w i).refused.allocate (h.asked n)))
 
-keeps-choose_aligned : (h : Choosing) (es : List Rules) → EachNumber IsRegular es → (n a : ℕ) → KeepsOnNone ((choosing_rules h es).aligned_allocate n a)
+keeps-choose_aligned : (h : Choosing) (es : List Rules) → EachNumber UnrangedLaws es → (n a : ℕ) → KeepsOnNone ((choosing_rules h es).aligned_allocate n a)
 unfolding choosing_rules
 keeps-choose_aligned h es w n a =
     let i = h.chosen n in
-    keeps-asked_for n _ (keeps-choose_serve (h.fits n) (h.shown n) i ((nth es i).aligned_allocate (h.asked n) a) ((w i).refusing.aligned_allocate (h.asked n) a))
+    keeps-asked_for n _ (keeps-choose_serve (h.fits n) (h.shown n) i ((nth es i).aligned_allocate (h.asked n) a) ((w i).refused.aligned_allocate (h.asked n) a))
 
-keeps-choose_expand : (h : Choosing) (es : List Rules) → EachNumber IsRegular es → (delta : ℕ) → KeepsOnFalse (choose_expand h es delta)
+keeps-choose_expand : (h : Choosing) (es : List Rules) → EachNumber UnrangedLaws es → (delta : ℕ) → KeepsOnFalse (choose_expand h es delta)
 keeps-choose_expand h es w delta b s cells =
     keeps-asked_to_expand delta _ (λ b s cells.
     let i = h.chosen b.len in
     let less = h.asked b.len in
     let more = h.asked (b.len + delta) in
     keeps-change_if (have_one_member h b.len (b.len + delta)) (choose_growth (nat_eq less more) i ((nth es i).expand (more - less)))
-    (keeps-choose_growth (nat_eq less more) i ((nth es i).expand (more - less)) ((w i).refusing.expand (more - less))) (chosen_down h b) s cells) b s cells
+    (keeps-choose_growth (nat_eq less more) i ((nth es i).expand (more - less)) ((w i).refused.expand (more - less))) (chosen_down h b) s cells) b s cells
 
 unmoved-shown_by : (shown : Block → Block) (r : Reallocated) → shown_by shown r ≡ unmoved → r ≡ unmoved
 unmoved-shown_by shown (moved_to b) e = absurd (cc)
 unmoved-shown_by shown emptied e = absurd (cc)
 unmoved-shown_by shown unmoved e = refl
 
-keeps-choose_within : (h : Choosing) (es : List Rules) → EachNumber IsRegular es → (n : ℕ) → KeepsUnmoved (choose_within h es n)
+keeps-choose_within : (h : Choosing) (es : List Rules) → EachNumber UnrangedLaws es → (n : ℕ) → KeepsUnmoved (choose_within h es n)
 keeps-choose_within h es w n b s cells e =
     let i = h.chosen b.len in
     let move = (nth es i).reallocate (h.asked n) in
     let r = reallocate_child i move (chosen_down h b) s cells in
-    keeps-reallocate_child i move ((w i).refusing.reallocate (h.asked n)) (chosen_down h b) s cells (unmoved-shown_by (h.shown n) r.answer e)
+    keeps-reallocate_child i move ((w i).refused.reallocate (h.asked n)) (chosen_down h b) s cells (unmoved-shown_by (h.shown n) r.answer e)
 
-keeps-choose_reallocate : (h : Choosing) (es : List Rules) → EachNumber IsRegular es → (n : ℕ) → KeepsUnmoved ((choosing_rules h es).reallocate n)
+keeps-choose_reallocate : (h : Choosing) (es : List Rules) → EachNumber UnrangedLaws es → (n : ℕ) → KeepsUnmoved ((choosing_rules h es).reallocate n)
 unfolding choosing_rules
 keeps-choose_reallocate h es w n b s cells =
     keeps-asked_to_reallocate n (choose_deallocate h es) _ (λ b s cells.
@@ -163,31 +165,32 @@ choosing-none_aligned h es c w n a s cells =
     none-asked_for n (choose_serve (h.fits n) (h.shown n) i (e.aligned_allocate (h.asked n) a)) s cells z (λ l m.
     none-case h es c n (e.aligned_allocate (h.asked n) a) s cells (h.fits n) (e.refuses_aligned (h.asked n) a (child s i) cells) refl l ((w i).refusing.none_aligned (h.asked n) a (child s i) cells))
 
-choosing-free_tails : (h : Choosing) (es : List Rules) → EachNumber IsRegular es → (s : State) (cells : Cells) → IsSettled (choosing_rules h es) s cells → (choosing_rules h es).has_free_tails s ≡ true
+choosing-free_tails : (h : Choosing) (es : List Rules) → EachNumber UnrangedLaws es → (s : State) (cells : Cells) → IsSettled (choosing_rules h es) s cells → (choosing_rules h es).has_free_tails s ≡ true
 unfolding choosing_rules
 choosing-free_tails h es w closed cells z = tails-from es 0 closed (λ j l. (w j).tails.shut)
 choosing-free_tails h es w (open_with own ss) cells z =
     let p = group-parts es (open_with own ss) cells z in
-    tails-from es 0 (open_with own ss) (λ j l. rw zero-add ((w j).refusing.free_tails (child (open_with own ss) j) cells (p.settled j l)))
+    tails-from es 0 (open_with own ss) (λ j l. rw zero-add ((w j).refused.free_tails (child (open_with own ss) j) cells (p.settled j l)))
 
-choosing-refusing : (h : Choosing) (es : List Rules) → Chooses h es → EachNumber IsRegular es → RefusingLaws (choosing_rules h es)
+choosing-refused : (h : Choosing) (es : List Rules) → EachNumber UnrangedLaws es → RefusedLaws (choosing_rules h es)
 unfolding choosing_rules
-choosing-refusing h es c w = record {
+choosing-refused h es w = record {
   allocate = keeps-choose_allocate h es w;
   aligned_allocate = keeps-choose_aligned h es w;
   expand = keeps-choose_expand h es w;
   reallocate = keeps-choose_reallocate h es w;
-  none = choosing-none h es c w;
-  none_aligned = choosing-none_aligned h es c w;
   free_tails = choosing-free_tails h es w;
   refuses_uncounted = λ n s t cells q.
       let i = h.chosen n in
-      ap (λ x. over_limit_or n (not (h.fits n) || x)) ((w i).refusing.refuses_uncounted (h.asked n) (child s i) (child t i) cells (same-child s t i q));
+      ap (λ x. over_limit_or n (not (h.fits n) || x)) ((w i).refused.refuses_uncounted (h.asked n) (child s i) (child t i) cells (same-child s t i q));
   refuses_aligned_uncounted = λ n a s t cells q.
       let i = h.chosen n in
-      ap (λ x. over_limit_or n (not (h.fits n) || x)) ((w i).refusing.refuses_aligned_uncounted (h.asked n) a (child s i) (child t i) cells (same-child s t i q));
-  free_tails_uncounted = λ s t q. tails-uncounted es 0 s t w q;
+      ap (λ x. over_limit_or n (not (h.fits n) || x)) ((w i).refused.refuses_aligned_uncounted (h.asked n) a (child s i) (child t i) cells (same-child s t i q));
+  free_tails_uncounted = λ s t q. tails-uncounted es 0 s t (λ i. (w i).refused) q;
 }
+
+choosing-refusing : (h : Choosing) (es : List Rules) → Chooses h es → EachNumber IsRegular es → RefusedLaws (choosing_rules h es) → RefusingLaws (choosing_rules h es)
+choosing-refusing h es c w k = refused-refusing (choosing_rules h es) k (choosing-none h es c w) (choosing-none_aligned h es c w)
 
 -- ---- tails
 
@@ -201,7 +204,7 @@ tails-served_unless es true y serve s cells h k = h
 tails-served_unless es false true serve s cells h k = h
 tails-served_unless es false false serve s cells h k = k
 
-choosing-tails : (h : Choosing) (es : List Rules) → EachNumber IsRegular es → TailLaws (choosing_rules h es)
+choosing-tails : (h : Choosing) (es : List Rules) → EachNumber UnrangedLaws es → TailLaws (choosing_rules h es)
 unfolding choosing_rules
 choosing-tails h es w = record {
   shut = tails-from es 0 closed (λ j l. (w j).tails.shut);
@@ -212,7 +215,7 @@ choosing-tails h es w = record {
       (tails-choose_serve es (h.fits n) (h.shown n) i serve s cells t ((w i).tails.allocate (h.asked n) (child s i) cells (tails-member es i s t)));
   set_up = λ need cells o q.
       let x = group-ok nothing (open_each es (h.need need) 0 1 cells) o q in
-      subst (λ (p : Opened). have_free_tails es 0 p.state ≡ true) x.2 (tails-from es 0 (open_with nothing x.0.0) (λ j l. rw zero-add (tails-opened es w (h.need need) 0 1 cells x.0 x.1 j l)));
+      subst (λ (p : Opened). have_free_tails es 0 p.state ≡ true) x.2 (tails-from es 0 (open_with nothing x.0.0) (λ j l. rw zero-add (tails-opened es (λ i. (w i).tails) (h.need need) 0 1 cells x.0 x.1 j l)));
 }
 
 -- ---- staying open
@@ -270,7 +273,14 @@ choosing-openness h es = record {
 
 -- ---- owning
 
-choosing-owning : (h : Choosing) (es : List Rules) → EachNumber IsRegular es → OwningLaws (choosing_rules h es)
+choosing-along : (h : Choosing) (es : List Rules) → EachNumber UnrangedLaws es → (path : List ℕ) (possible : Bool) (b : Block) (s : State) → choose_owns_at h es path possible b s ≡ yes_if possible (choose_owns_at h es path true b s)
+choosing-along h es w [] possible b s = along-at_end (offers_of_all es).owns (choose_holds h es b s) possible
+choosing-along h es w (i ∷ path) possible b s =
+    let below = λ (x : Bool). (nth es i).owns_at path x (chosen_down h b) (child s i) in
+    let fine = is_served_size b.len && h.fits b.len in
+    along-into_member es i (λ x. below (x && fine)) (along-below fine below (λ x. (w i).owning.along path x (chosen_down h b) (child s i))) possible
+
+choosing-owning : (h : Choosing) (es : List Rules) → EachNumber UnrangedLaws es → OwningLaws (choosing_rules h es)
 unfolding choosing_rules
 choosing-owning h es w = record {
   answer = λ b s.
@@ -287,6 +297,7 @@ choosing-owning h es w = record {
       let i = h.chosen b.len in
       ap₂ (λ x y. x && (h.fits b.len && y)) (same-may_hold b s t q) ((w i).owning.holds_uncounted (chosen_down h b) (child s i) (child t i) (same-child s t i q));
   open_holds = λ b s o. open-may_hold b s (h.fits b.len && (nth es (h.chosen b.len)).holds (chosen_down h b) (child s (h.chosen b.len))) o;
+  along = choosing-along h es w;
 }
 
 -- ---- taking
@@ -296,7 +307,7 @@ unfolding choosing_rules
 takes-choose_serve h es true shown i serve k = takes-serve_member (nth es i) (choosing_rules h es) shown i serve (λ t l. leaf-in es i t l) k
 takes-choose_serve h es false shown i serve k = takes-refuse (choosing_rules h es)
 
-choosing-taking : (h : Choosing) (es : List Rules) → EachNumber IsRegular es → TakingLaws (choosing_rules h es)
+pub choosing-taking : (h : Choosing) (es : List Rules) → EachNumber UnrangedLaws es → TakingLaws (choosing_rules h es)
 unfolding choosing_rules
 choosing-taking h es w = record {
   allocate = λ n.
@@ -305,23 +316,29 @@ choosing-taking h es w = record {
   aligned_allocate = λ n a.
       let i = h.chosen n in
       takes-asked_for (choosing_rules h es) n _ (takes-choose_serve h es (h.fits n) (h.shown n) i ((nth es i).aligned_allocate (h.asked n) a) ((w i).taking.aligned_allocate (h.asked n) a));
-  set_up = λ need cells. took-group (choosing_rules h es) nothing (open_each es (h.need need) 0 1 cells) cells (took-each (choosing_rules h es) es (λ t l. l) w (h.need need) 0 1 cells);
+  set_up = λ need cells. took-group (choosing_rules h es) nothing (open_each es (h.need need) 0 1 cells) cells (took-each (choosing_rules h es) es (λ t l. l) (λ i. (w i).taking) (h.need need) 0 1 cells);
   deallocate_count = λ b s cells. let i = h.chosen b.len in (w i).taking.deallocate_count (chosen_down h b) (child s i) cells;
-  deallocate_all_count = λ s cells. count-empty_each es w 0 s cells;
-  names_a_node = λ need cells k q. let v = refuses-each es w (h.need need) 0 1 cells k (group-refuses nothing _ k q) in omega arith;
+  deallocate_all_count = λ s cells. count-empty_each es (λ i. (w i).taking) 0 s cells;
+  names_a_node = λ need cells k q. let v = refuses-each es (λ i. (w i).taking) (h.need need) 0 1 cells k (group-refuses nothing _ k q) in omega arith;
 }
 
 -- ---- the whole
 
-pub choosing-regular : ChoosingIsRegular
-choosing-regular h es c each =
-    let w = all-regular es each in
+-- whatever it chooses
+pub choosing-unranged : (h : Choosing) (es : List Rules) → EachMember UnrangedLaws es → UnrangedLaws (choosing_rules h es)
+choosing-unranged h es each =
+    let w = all-unranged es each in
     record {
-      telling = choosing-telling h es c w;
       reading = choosing-reading h es w;
-      refusing = choosing-refusing h es c w;
+      refused = choosing-refused h es w;
       tails = choosing-tails h es w;
       openness = choosing-openness h es;
       owning = choosing-owning h es w;
       taking = choosing-taking h es w;
     }
+
+pub choosing-regular : ChoosingIsRegular
+choosing-regular h es c each =
+    let w = all-regular es each in
+    let u = choosing-unranged h es (λ i l. regular-unranged (nth es i) (each i l)) in
+    unranged-regular (choosing_rules h es) u (choosing-telling h es c w) (choosing-refusing h es c w u.refused)

@@ -20,13 +20,13 @@ use Rattle.layer_laws.specs.HandsDown.{RoundKept, HandsDown}
 use Rattle.layer_laws.specs.Lawful.{IsMade}
 use Rattle.layer_laws.specs.StandingLaws.{allocated-gives}
 use Rattle.layer_laws.specs.HandingStands.{parent-stands}
-use Rattle.layer_laws.specs.HandingLawful.{out-hand, apart-hand}
+use Rattle.layer_laws.specs.HandingParts.{out-hand, apart-hand}
 
-abbrev RulesOf : (Rules → Handing) → Rules → Rules
+abbrev pub RulesOf : (Rules → Handing) → Rules → Rules
 RulesOf form e = handing_rules (form e) e
 
 -- the frame of a call, by the parent's
-frame-open : {A : Type 0} → (form : Rules → Handing) (kept : A → Kept) (o : Option A) (x : A) (t t' : LayerModel) (m m' : Memory) → Frames t t' m m' → Frames (hand_model form kept o t) (hand_model form kept (Some x) t') m m'
+pub frame-open : {A : Type 0} → (form : Rules → Handing) (kept : A → Kept) (o : Option A) (x : A) (t t' : LayerModel) (m m' : Memory) → Frames t t' m m' → Frames (hand_model form kept o t) (hand_model form kept (Some x) t') m m'
 unfolding handing_rules
 frame-open form kept o x t t' m m' f =
     record { rules = ap (RulesOf form) f.rules; image = f.image; memory = f.memory; size = f.size; leaves = f.leaves; foreign = record { at = f.foreign.at } }
@@ -79,11 +79,11 @@ hand-refused form kept None t t' m m' need r r' u p q s =
 
 -- ---- blocks that stay
 
-narrower : (old new : List ℕ) (from upto low high : ℕ) → from ≤ low → high ≤ upto → KeepsBytes old new from upto → KeepsBytes old new low high
+pub narrower : (old new : List ℕ) (from upto low high : ℕ) → from ≤ low → high ≤ upto → KeepsBytes old new from upto → KeepsBytes old new low high
 narrower old new from upto low high l k h = record { at = λ i x y. h.at i (omega arith) (omega arith) }
 
 -- a block whose surroundings the parent kept
-hand-stays : {A : Type 0} → (form : Rules → Handing) (kept : A → Kept) (x x' : A) (t t' : LayerModel) (m m' : Memory) (c : Block) → HandsDown (form t.rules) t.rules → (form t.rules).fits c ≡ true → Frames t t' m m' → Stays t t' m m' ((form t.rules).down c)
+pub hand-stays : {A : Type 0} → (form : Rules → Handing) (kept : A → Kept) (x x' : A) (t t' : LayerModel) (m m' : Memory) (c : Block) → HandsDown (form t.rules) t.rules → (form t.rules).fits c ≡ true → Frames t t' m m' → Stays t t' m m' ((form t.rules).down c)
     → Stays (hand_model form kept (Some x) t) (hand_model form kept (Some x') t') m m' c
 unfolding handing_rules
 hand-stays form kept x x' t t' m m' c w f frame s =

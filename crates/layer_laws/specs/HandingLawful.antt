@@ -1,5 +1,5 @@
 -- What hands its blocks down is lawful over a lawful parent.
-use Rattle.std.proofs.Common.{◌≡◌, refl, sym, ap, subst, ◌∙◌, ℕ, ◌≤◌, ◌+◌, ◌-◌, ◌*◌, ◌/◌, ◌⊎◌, inl, inr, Bool, true, false, ◌&&◌, arith, List, length, get_or, cond, Option, Ok, Err, option_map, is_some, nat_eq, nat_le}
+use Rattle.std.proofs.Common.{◌≡◌, refl, sym, ap, subst, ◌∙◌, ℕ, ◌≤◌, ◌+◌, ◌-◌, ◌*◌, ◌/◌, ◌⊎◌, inl, inr, Bool, true, false, ◌&&◌, arith, List, length, get_or, cond, Option, Ok, option_map, is_some, nat_eq, nat_le, ◌∷◌}
 use Rattle.std.proofs.lemmas.Bool.{and_from}
 use Rattle.std.proofs.lemmas.Bool.Decides.{nat_tests}
 use Rattle.size_round.specs.Sizes.{limit}
@@ -9,75 +9,22 @@ use Rattle.layer_rules.specs.declared.Block.{Block}
 use Rattle.layer_rules.specs.Blocks.{no_block, end_of, is_apart}
 use Rattle.layer_rules.specs.Expanding.{change_if}
 use Rattle.layer_rules.specs.Fields.{closed_fields, open_fields, nth_fields}
-use Rattle.layer_rules.specs.State.{State, Own, open_with, one_child, is_open, own_of, child}
-use Rattle.layer_rules.specs.After.{After, after, Placed, from_child, refuse, Opened, Opening}
-use Rattle.layer_rules.specs.Owning.{is_plausible}
+use Rattle.layer_rules.specs.State.{State, Own, open_with, one_child, is_open, own_of, child, closed, with_own}
+use Rattle.layer_rules.specs.After.{After, after, Placed, from_child, refuse, Opened, Serve}
+use Rattle.layer_rules.specs.Owning.{is_plausible, owns_child_if}
 use Rattle.layer_rules.specs.Setting.{open_parent}
 use Rattle.layer_rules.specs.Rules.{Rules, HasSomeTags, IsSettled, AreApart, longer_if}
-use Rattle.layer_rules.specs.Testing.{is_over}
-use Rattle.layer_rules.specs.Handing.{Handing, hand_request, hand_expansion, handing_rules}
-use Rattle.layer_laws.specs.Lawful.{IsGood, Good, IsFreed, Freeing, IsGrown, Growing, IsEmptied, Emptying, Covers, Covering, Routing, Aligning, OutTags, SettledTags, TagsKept, Opens, OnlyOwnCells, IsSameOrApart, ChangesInside, OwnKept, OwnFraming, Framing, OpennessLaws, IsRegular, KeepingLaws, PlacingLaws, FramingLaws, OpeningLaws, IsLawful}
+use Rattle.layer_rules.specs.Handing.{Handing, hand_request, hand_expansion, handing_rules, hand_allocate, hand_aligned}
+use Rattle.layer_laws.specs.Lawful.{IsGood, Good, IsFreed, Freeing, IsGrown, Growing, IsEmptied, Emptying, Covers, Covering, Routing, Aligning, OutTags, SettledTags, TagsKept, Opens, OnlyOwnCells, IsSameOrApart, ChangesInside, OwnKept, OwnFraming, Framing, OpennessLaws, TakingLaws, KeepingLaws, PlacingLaws, FramingLaws, OpeningLaws, IsAlignedGood, AtMultiple, AlignedGood, KeepsTold, OwnsKeeping}
 use Rattle.layer_laws.specs.HandsDown.{HandingIsLawful, RoundKept, HandsDown}
 use Rattle.layer_laws.specs.Basics.{and-fst, and-snd}
+use Rattle.layer_laws.specs.HandingParts.{IsOutDown, hand_settled, hand-parts, hand-settles, hand-opened, out-hand, hand-out, hand-seen, hand-apart, apart-hand, if-opens}
+use Rattle.layer_laws.specs.HandingReallocated.{hand-reallocated}
+use Rattle.layer_laws.specs.HandingRegular.{hand-taking}
 use Rattle.layer_laws.specs.Tables.{tag-in_range}
-use Rattle.layer_laws.specs.Tests.{opened, over-parts, some-open, settled-moved}
-use Rattle.layer_laws.specs.Steps.{refuse-good, kept-short, by-nothing, offered-grown, longer-some, parent-ok, inside-wider}
-use Rattle.layer_laws.specs.Children.{IsShown, shown-of}
-
--- ---- what the tests say
-
-pub record HandParts (h : Handing) (e : Rules) (s : State) (cells : Cells) : Type 0 where
-  pub form : s ≡ open_with (own_of s) (one_child (child s 0))
-  pub own : h.passes (own_of s) ≡ true
-  pub parent : is_open (child s 0) ≡ true
-  pub below : IsSettled e (child s 0) cells
-
-abbrev pub hand_settled : Handing → Rules → State → Cells → Bool
-hand_settled h e s cells = is_over h.passes s && e.is_settled (child s 0) cells
-
-pub hand-parts : (h : Handing) (e : Rules) (s : State) (cells : Cells) → hand_settled h e s cells ≡ true → HandParts h e s cells
-hand-parts h e s cells z =
-    let o = over-parts h.passes s (and-fst (is_over h.passes s) (e.is_settled (child s 0) cells) z) in
-    record { form = o.form; own = o.own; parent = o.parent; below = and-snd (is_over h.passes s) (e.is_settled (child s 0) cells) z }
-
-pub hand-settles : (h : Handing) (e : Rules) (own : Own) (t : State) (cells : Cells) → h.passes own ≡ true → is_open t ≡ true → IsSettled e t cells → hand_settled h e (open_with own (one_child t)) cells ≡ true
-hand-settles h e own t cells p o z = and_from _ _ (and_from _ _ p o) z
-
-pub hand-opened : (h : Handing) (e : Rules) (s : State) (cells : Cells) → is_open s ≡ true → IsSettled (handing_rules h e) s cells → HandParts h e s cells
-unfolding handing_rules
-hand-opened h e s cells o z = hand-parts h e s cells (opened s e.leaf_tags cells (hand_settled h e s cells) o z)
-
-pub record IsOutDown (h : Handing) (e : Rules) (b : Block) (s : State) (cells : Cells) : Type 0 where
-  pub is_set : is_open s ≡ true
-  pub some : 1 ≤ b.len
-  pub fits : h.fits b ≡ true
-  pub below : e.is_out (h.down b) (child s 0) cells ≡ true
-
-out-parts : (b : Block) (s : State) (f x : Bool) → ((is_open s && nat_le 1 b.len) && (f && x)) ≡ true → (is_open s ≡ true) × (1 ≤ b.len) × (f ≡ true) × (x ≡ true)
-out-parts b s f x o =
-    let l : nat_le 1 b.len ≡ true = and-snd (is_open s) (nat_le 1 b.len) (and-fst (is_open s && nat_le 1 b.len) (f && x) o) in
-    let y = and-snd (is_open s && nat_le 1 b.len) (f && x) o in
-    (and-fst (is_open s) (nat_le 1 b.len) (and-fst (is_open s && nat_le 1 b.len) (f && x) o), grind (arith, nat_tests), and-fst f x y, and-snd f x y)
-
-pub out-hand : (h : Handing) (e : Rules) (b : Block) (s : State) (cells : Cells) → (handing_rules h e).is_out b s cells ≡ true → IsOutDown h e b s cells
-unfolding handing_rules
-out-hand h e b s cells o = let x = out-parts b s (h.fits b) (e.is_out (h.down b) (child s 0) cells) o in record { is_set = x.0; some = x.1; fits = x.2; below = x.3 }
-
-pub hand-out : (h : Handing) (e : Rules) (b : Block) (s : State) (cells : Cells) → IsOutDown h e b s cells → (handing_rules h e).is_out b s cells ≡ true
-unfolding handing_rules
-hand-out h e b s cells o = let l : nat_le 1 b.len ≡ true = grind (arith, nat_tests, o.some) in and_from _ _ (and_from _ _ o.is_set l) (and_from _ _ o.fits o.below)
-
--- ---- extents
-
-pub hand-seen : (h : Handing) (e : Rules) (b : Block) (s : State) → h.fits b ≡ true → (handing_rules h e).extent b s ≡ e.extent (h.down b) (child s 0)
-unfolding handing_rules
-hand-seen h e b s f = ap (λ x. cond x (e.extent (h.down b) (child s 0)) no_block) f
-
-pub hand-apart : (h : Handing) (e : Rules) (s : State) (b c : Block) → h.fits b ≡ true → h.fits c ≡ true → AreApart e (child s 0) (h.down b) (h.down c) → AreApart (handing_rules h e) s b c
-hand-apart h e s b c f g a = record { either = rw (hand-seen h e b s f, hand-seen h e c s g) a.either }
-
-pub apart-hand : (h : Handing) (e : Rules) (s : State) (b c : Block) → h.fits b ≡ true → h.fits c ≡ true → AreApart (handing_rules h e) s b c → AreApart e (child s 0) (h.down b) (h.down c)
-apart-hand h e s b c f g a = record { either = rw (hand-seen h e b s f, hand-seen h e c s g) at a.either }
+use Rattle.layer_laws.specs.Tests.{some-open, settled-moved}
+use Rattle.layer_laws.specs.Steps.{refuse-good, kept-short, by-nothing, offered-grown, longer-some, parent-ok, inside-wider, refuse-aligned, same-told}
+use Rattle.layer_laws.specs.Children.{IsShown, shown-of, shown-at_multiple}
 
 -- ---- a request
 
@@ -95,6 +42,7 @@ hand-serves h e own own' t cells n r w l p g =
       is_set = refl;
       settled = hand-settles h e own' r.state r.cells p g.is_set g.settled;
       extents = λ b. ap (λ x. cond (h.fits b) x no_block) (g.extents (h.down b));
+      routes = λ b o. ap (λ r. 0 ∷ r) (g.routes (h.down b) (out-hand h e b old cells o).below);
       stays = λ b o. let x = out-hand h e b old cells o in hand-out h e b new r.cells (record { is_set = refl; some = x.some; fits = x.fits; below = g.stays (h.down b) x.below });
       len = λ q z. len q (shown-of 0 (h.shown n) r.answer q z);
       out = λ q z.
@@ -107,25 +55,79 @@ hand-serves h e own own' t cells n r w l p g =
           hand-apart h e old q.block b (fits q x) y.fits (subst (λ c. AreApart e t c (h.down b)) (sym (seen q x)) (g.fresh x.below x.answered (h.down b) y.below));
     }
 
-hand-requested : (h : Handing) (e : Rules) (n : ℕ) (own : Own) (t : State) (cells : Cells) (empty goes : Bool) → nat_eq n 0 ≡ empty → (nat_le n limit && h.admits n own) ≡ goes → HandsDown h e
-    → h.passes own ≡ true → is_open t ≡ true → IsSettled e t cells → IsGood e t cells (h.asked n) (e.allocate (h.asked n) t cells)
-    → IsGood (handing_rules h e) (open_with own (one_child t)) cells n (hand_request h empty goes n (e.allocate (h.asked n)) (open_with own (one_child t)) cells)
+hand-requested : (h : Handing) (e : Rules) (n : ℕ) (serve : Serve) (own : Own) (t : State) (cells : Cells) (empty goes : Bool) → nat_eq n 0 ≡ empty → (nat_le n limit && h.admits n own) ≡ goes → HandsDown h e
+    → h.passes own ≡ true → is_open t ≡ true → IsSettled e t cells → IsGood e t cells (h.asked n) (serve t cells)
+    → IsGood (handing_rules h e) (open_with own (one_child t)) cells n (hand_request h empty goes n serve (open_with own (one_child t)) cells)
 unfolding handing_rules
-hand-requested h e n own t cells true goes q x w p o z g = refuse-good (handing_rules h e) n (open_with own (one_child t)) cells refl (hand-settles h e own t cells p o z)
-hand-requested h e n own t cells false true q x w p o z g =
-    let r = e.allocate (h.asked n) t cells in
+hand-requested h e n serve own t cells true goes q x w p o z g = refuse-good (handing_rules h e) n (open_with own (one_child t)) cells refl (hand-settles h e own t cells p o z)
+hand-requested h e n serve own t cells false true q x w p o z g =
+    let r = serve t cells in
     let ok = is_some (option_map (from_child (h.shown n) 0) r.answer) in
     hand-serves h e own (h.allocated ok n own) t cells n r w (grind (arith, nat_tests)) (w.in_order.allocated ok n own p (λ k. and-snd (nat_le n limit) (h.admits n own) x)) g
-hand-requested h e n own t cells false false q x w p o z g =
+hand-requested h e n serve own t cells false false q x w p o z g =
     hand-serves h e own (h.allocated false n own) t cells n (refuse t cells) w (grind (arith, nat_tests)) (w.in_order.allocated false n own p (λ k. absurd (cc))) (refuse-good e (h.asked n) t cells o z)
+
+-- what the parent serves well is served well
+hand-served : (h : Handing) (e : Rules) (n : ℕ) (serve : Serve) (s : State) (cells : Cells) → HandsDown h e → is_open s ≡ true → IsSettled (handing_rules h e) s cells
+    → (is_open (child s 0) ≡ true → IsSettled e (child s 0) cells → IsGood e (child s 0) cells (h.asked n) (serve (child s 0) cells)) → IsGood (handing_rules h e) s cells n (hand_allocate h n serve s cells)
+hand-served h e n serve s cells w o z g =
+    let x = hand-opened h e s cells o z in
+    subst (λ s. IsGood (handing_rules h e) s cells n (hand_allocate h n serve s cells)) (sym x.form)
+    (hand-requested h e n serve (own_of s) (child s 0) cells _ _ refl refl w x.own x.parent x.below (g x.parent x.below))
 
 hand-good : (h : Handing) (e : Rules) → HandsDown h e → Good e → Good (handing_rules h e)
 unfolding handing_rules
-hand-good h e w law n s cells o z =
-    let f = handing_rules h e in
+hand-good h e w law n s cells o z = hand-served h e n (e.allocate (h.asked n)) s cells w o z (λ y x. law (h.asked n) (child s 0) cells y x)
+
+-- and at a multiple where the parent serves it there
+hand-at_multiple : (h : Handing) (a n : ℕ) (serve : Serve) (s : State) (cells : Cells) (empty goes : Bool) → ((b : Block) → (h.shown n b).place ≡ b.place) → AtMultiple a (serve (child s 0) cells).answer
+    → AtMultiple a (hand_request h empty goes n serve s cells).answer
+hand-at_multiple h a n serve s cells true goes place m = λ p q. absurd (cc)
+hand-at_multiple h a n serve s cells false true place m = shown-at_multiple 0 a (h.shown n) (serve (child s 0) cells).answer (λ p q. place p.block) m
+hand-at_multiple h a n serve s cells false false place m = λ p q. absurd (cc)
+
+aligned-case : (h : Handing) (e : Rules) (n a : ℕ) (serve : Serve) (s : State) (cells : Cells) (q : Bool) → h.aligns ≡ q → HandsDown h e → is_open s ≡ true → IsSettled (handing_rules h e) s cells
+    → (is_open (child s 0) ≡ true → IsSettled e (child s 0) cells → IsAlignedGood e (child s 0) cells (h.asked n) a (serve (child s 0) cells)) → IsAlignedGood (handing_rules h e) s cells n a (hand_aligned h q n serve s cells)
+aligned-case h e n a serve s cells false q w o z g = refuse-aligned (handing_rules h e) n a s cells o z
+aligned-case h e n a serve s cells true q w o z g =
     let x = hand-opened h e s cells o z in
-    subst (λ s. IsGood f s cells n (f.allocate n s cells)) (sym x.form)
-    (hand-requested h e n (own_of s) (child s 0) cells _ _ refl refl w x.own x.parent x.below (law (h.asked n) (child s 0) cells x.parent x.below))
+    record {
+      good = hand-served h e n serve s cells w o z (λ y x. (g y x).good);
+      aligned = hand-at_multiple h a n serve s cells _ _ (w.placed q n) (g x.parent x.below).aligned;
+    }
+
+hand-aligned_good : (h : Handing) (e : Rules) → HandsDown h e → AlignedGood e → AlignedGood (handing_rules h e)
+unfolding handing_rules
+hand-aligned_good h e w law n a s cells p l o z = aligned-case h e n a (e.aligned_allocate (h.asked n) a) s cells h.aligns refl w o z (λ y x. law (h.asked n) a (child s 0) cells p l y x)
+
+-- ---- who owns a block
+
+told-over : (h : Handing) (e : Rules) (own own' : Own) (t u : State) (cells : Cells) → h.passes own' ≡ true → is_open u ≡ true → KeepsTold e t u cells
+    → KeepsTold (handing_rules h e) (open_with own (one_child t)) (open_with own' (one_child u)) cells
+unfolding handing_rules
+told-over h e own own' t u cells p o k = record {
+  settled = hand-settles h e own' u cells p o k.settled;
+  extents = λ c. ap (λ x. cond (h.fits c) x no_block) (k.extents (h.down c));
+  routes = λ c x. ap (λ r. 0 ∷ r) (k.routes (h.down c) (out-hand h e c (open_with own (one_child t)) cells x).below);
+  out = λ c. ap (λ x. nat_le 1 c.len && (h.fits c && x)) (k.out (h.down c));
+  clean = λ c bytes. ap (λ x. h.clean c bytes && x) (k.clean (h.down c) bytes);
+  marked = λ c bytes. ap (λ x. h.marked c bytes && x) (k.clean (h.down c) bytes);
+}
+
+-- whether the parent is asked or not
+told-case : (h : Handing) (e : Rules) (b : Block) (own : Own) (t : State) (cells : Cells) (q : Bool) → HandsDown h e → OpennessLaws e → OwnsKeeping e → h.passes own ≡ true → is_open t ≡ true → IsSettled e t cells
+    → KeepsTold (handing_rules h e) (open_with own (one_child t)) (let r = owns_child_if q 0 (λ c. e.owns (h.down b)) b (open_with own (one_child t)) in with_own r.state (h.owned (own_of r.state))) cells
+told-case h e b own t cells true w stays law p o z = told-over h e own (h.owned own) t (e.owns (h.down b) t).state cells (w.in_order.owned own p) (stays.owns (h.down b) t ∙ o) (law (h.down b) t cells z)
+told-case h e b own t cells false w stays law p o z = told-over h e own (h.owned own) t t cells (w.in_order.owned own p) o (same-told e t cells z)
+
+hand-owned : (h : Handing) (e : Rules) → HandsDown h e → OpennessLaws e → OwnsKeeping e → OwnsKeeping (handing_rules h e)
+unfolding handing_rules
+hand-owned h e w stays law b closed cells z = same-told (handing_rules h e) closed cells z
+hand-owned h e w stays law b (open_with own ss) cells z =
+    let f = handing_rules h e in
+    let s = open_with own ss in
+    let x = hand-opened h e s cells refl z in
+    subst (λ s. KeepsTold f s (f.owns b s).state cells) (sym x.form) (told-case h e b own (child s 0) cells _ w stays law x.own x.parent x.below)
 
 -- ---- a block is given back
 
@@ -139,6 +141,7 @@ hand-taken_back h e own own' t cells b r p f g =
       is_set = refl;
       settled = hand-settles h e own' r.state r.cells p g.is_set g.settled;
       extents = λ c. ap (λ x. cond (h.fits c) x no_block) (g.extents (h.down c));
+      routes = λ c o a. let x = out-hand h e c old cells o in ap (λ r. 0 ∷ r) (g.routes (h.down c) x.below (apart-hand h e old b c f x.fits a));
       stays = λ c o a.
           let x = out-hand h e c old cells o in
           hand-out h e c new r.cells (record { is_set = refl; some = x.some; fits = x.fits; below = g.stays (h.down c) x.below (apart-hand h e old b c f x.fits a) });
@@ -175,6 +178,7 @@ hand-longer h e own own' t cells b delta d r p x f same g =
       is_set = refl;
       settled = hand-settles h e own' r.state r.cells p g.is_set g.settled;
       extents = λ c. ap (λ x. cond (h.fits c) x no_block) (g.extents (h.down c));
+      routes = λ c o a. let z = out-hand h e c old cells o in ap (λ r. 0 ∷ r) (g.routes (h.down c) z.below (λ q. apart-hand h e old b c x.fits z.fits (a q)));
       stays = λ c o a.
           let z = out-hand h e c old cells o in
           hand-out h e c new r.cells (record { is_set = refl; some = z.some; fits = z.fits; below = g.stays (h.down c) z.below (λ q. apart-hand h e old b c x.fits z.fits (a q)) });
@@ -299,10 +303,6 @@ hand-aligned h e w law b s cells z o =
 
 -- ---- opening
 
-pub if-opens : (x o : Opening) (b : Bool) → elim b as (λ _. Opening) [ true ↦ x | false ↦ Err 0 ] ≡ o → ((k : ℕ) → o ≡ Err k → ⊥) → x ≡ o
-if-opens x o true e n = e
-if-opens x o false e n = absurd (n 0 (sym e))
-
 hand-opens : (h : Handing) (e : Rules) → HandsDown h e → OpennessLaws e → Opens e → Opens (handing_rules h e)
 unfolding handing_rules
 hand-opens h e w stays law need cells o n q =
@@ -393,9 +393,21 @@ hand-marked h e w b bytes x z = both-kept (h.clean b bytes) (h.marked b bytes) x
 
 -- ---- the families
 
-pub hand-keeping : (h : Handing) (e : Rules) → HandsDown h e → KeepingLaws e → KeepingLaws (handing_rules h e)
+pub hand-keeping : (h : Handing) (e : Rules) → HandsDown h e → OpennessLaws e → TakingLaws e → KeepingLaws e → KeepingLaws (handing_rules h e)
 unfolding handing_rules
-hand-keeping h e w p = record { out_open = λ b s cells o. some-open (is_open s) _ _ o; out_some = λ b s cells o. (out-hand h e b s cells o).some; good = hand-good h e w p.good; freed = hand-freed h e w p.freed; grown = hand-grown h e w p.grown; emptied = hand-emptied h e w p.emptied }
+hand-keeping h e w g t p =
+    let some = λ (b : Block) (s : State) (cells : Cells) (o : (handing_rules h e).is_out b s cells ≡ true). (out-hand h e b s cells o).some in
+    record {
+      out_some = some;
+      out_open = λ b s cells o. some-open (is_open s) _ _ o;
+      good = hand-good h e w p.good;
+      freed = hand-freed h e w p.freed;
+      grown = hand-grown h e w p.grown;
+      emptied = hand-emptied h e w p.emptied;
+      reallocated = hand-reallocated h e w p.reallocated (record { some = some; takes = (hand-taking h e t).allocate; good = hand-good h e w p.good; freed = hand-freed h e w p.freed; grown = hand-grown h e w p.grown });
+      aligned = hand-aligned_good h e w p.aligned;
+      owned = hand-owned h e w g p.owned;
+    }
 
 pub hand-placing : (h : Handing) (e : Rules) → HandsDown h e → HasSomeTags e → PlacingLaws e → PlacingLaws (handing_rules h e)
 hand-placing h e w t p =
@@ -423,7 +435,7 @@ hand-opening h e w o p = record { closed_settled = λ cells. refl; closed_image 
 pub hand-lawful : HandingIsLawful
 hand-lawful h e w t g p =
     record {
-      keeping = hand-keeping h e w p.keeping;
+      keeping = hand-keeping h e w g.openness g.taking p.keeping;
       placing = hand-placing h e w t p.placing;
       framing = hand-framing h e w p.placing p.framing;
       opening = hand-opening h e w g.openness p.opening;

@@ -18,8 +18,8 @@ use Rattle.layer_rules.specs.Setting.{open_parent}
 use Rattle.layer_rules.specs.Unread.{unread}
 use Rattle.layer_rules.specs.Rules.{Rules, IsSettled}
 use Rattle.layer_rules.specs.Handing.{Handing, hand_request, hand_allocate, hand_aligned, hand_refuses, hand_deallocate, hand_expansion, hand_expand, shown_by, hand_move, hand_reallocation, hand_reallocate, hand_owns, hand_holds, hand_owns_at, handing_rules}
-use Rattle.layer_laws.specs.Lawful.{TellingLaws, ReadingLaws, KeepsOnNone, KeptOnFalse, KeepsOnFalse, KeepsUnmoved, RefusingLaws, TailLaws, OpennessLaws, OwningLaws, TakingLaws, IsRegular}
-use Rattle.layer_laws.specs.HandsDown.{HandingIsRegular, HandsDown}
+use Rattle.layer_laws.specs.Lawful.{TellingLaws, ReadingLaws, KeepsOnNone, KeptOnFalse, KeepsOnFalse, KeepsUnmoved, RefusingLaws, TailLaws, OpennessLaws, OwningLaws, TakingLaws, RefusedLaws, UnrangedLaws, yes_if}
+use Rattle.layer_laws.specs.HandsDown.{HandingIsRegular, HandsDown, KeepsWhereRefused}
 use Rattle.layer_laws.specs.Tests.{set-up-opens}
 use Rattle.layer_laws.specs.Steps.{parent-ok, parent-refuses}
 use Rattle.layer_laws.specs.Uncounting.{same-own, same-child}
@@ -28,8 +28,10 @@ use Rattle.layer_laws.specs.Requests.{keeps-refuse, keeps-serve_parent, kept-own
 use Rattle.layer_laws.specs.Reallocations.{keeps-say, keeps-change_child, keeps-change_if, kept-own_on_false, keeps-in_place, keeps-asked_to_reallocate, keeps-general_reallocate, keeps-reallocate_child, keeps-either_reallocate, kept-own_unmoved}
 use Rattle.layer_laws.specs.Takings.{HasLeavesOf, TakesOwn, takes-refuse, takes-serve_parent, took-wider, took-parent}
 use Rattle.layer_laws.specs.Owners.{held-same, AsksUnread, owned-child_both, open-may_hold, not_owned-child_if, not_owned-own, steady-child_if, steady-own, asks-below, asks-child_if, asks-own}
+use Rattle.layer_laws.specs.Unranged.{regular-unranged, refused-refusing, unranged-regular}
 use Rattle.layer_laws.specs.Unreading.{told-child, unread-may_hold, unread-over_parent}
-use Rattle.layer_laws.specs.HandingLawful.{hand-opened, if-opens}
+use Rattle.layer_laws.specs.HandingParts.{hand-opened, if-opens}
+use Rattle.layer_laws.specs.Paths.{along-at_end, along-below, along-into_parent}
 
 -- ---- telling
 
@@ -54,15 +56,15 @@ hand-owns_at_unread h e p (i ∷ path) possible b s =
     let fine = possible && (is_served_size b.len && h.fits b) in
     ap (into_parent i) (told-child (e.owns_at path fine (h.down b)) s 0 (p.owns_at path fine (h.down b)))
 
-hand-owns_unread : (h : Handing) (e : Rules) → HandsDown h e → ReadingLaws e → (b : Block) (s : State) → AsksUnread (hand_owns h e) b s
+hand-owns_unread : (h : Handing) (e : Rules) → KeepsWhereRefused h → ReadingLaws e → (b : Block) (s : State) → AsksUnread (hand_owns h e) b s
 hand-owns_unread h e w p b s =
     let below = λ (c : Block). e.owns (h.down b) in
     let fine = λ (c : Block) (t : State). may_hold c t && h.fits c in
-    let r = asks-own (λ c t. owns_child_if (fine c t) 0 below c t) h.owned b s w.refused.owned_unread
+    let r = asks-own (λ c t. owns_child_if (fine c t) 0 below c t) h.owned b s w.owned_unread
     (asks-child_if fine 0 below b s (ap (λ x. x && h.fits b) (unread-may_hold b s)) (asks-below e p (h.down b) b (child s 0))) in
     record { owned = r.owned; state = r.state }
 
-pub hand-reading : (h : Handing) (e : Rules) → HandsDown h e → ReadingLaws e → ReadingLaws (handing_rules h e)
+pub hand-reading : (h : Handing) (e : Rules) → KeepsWhereRefused h → ReadingLaws e → ReadingLaws (handing_rules h e)
 unfolding handing_rules
 hand-reading h e w p =
     record {
@@ -79,43 +81,43 @@ hand-reading h e w p =
 
 -- ---- refusing: what a refused call leaves
 
-counted-none : (h : Handing) (e : Rules) → HandsDown h e → (n : ℕ) (o : Option Placed) (own : Own) → o ≡ None → without_counts (h.allocated (is_some o) n own) ≡ without_counts own
-counted-none h e w n None own q = w.refused.allocated n own
-counted-none h e w n (Some p) own q = absurd (cc)
+counted-none : (h : Handing) → KeepsWhereRefused h → (n : ℕ) (o : Option Placed) (own : Own) → o ≡ None → without_counts (h.allocated (is_some o) n own) ≡ without_counts own
+counted-none h w n None own q = w.allocated n own
+counted-none h w n (Some p) own q = absurd (cc)
 
-keeps-hand_request : (h : Handing) (e : Rules) → HandsDown h e → (empty goes : Bool) (n : ℕ) (serve : Serve) → KeepsOnNone serve → KeepsOnNone (hand_request h empty goes n serve)
-keeps-hand_request h e w true goes n serve k = keeps-refuse
-keeps-hand_request h e w false true n serve k = λ s cells.
+keeps-hand_request : (h : Handing) → KeepsWhereRefused h → (empty goes : Bool) (n : ℕ) (serve : Serve) → KeepsOnNone serve → KeepsOnNone (hand_request h empty goes n serve)
+keeps-hand_request h w true goes n serve k = keeps-refuse
+keeps-hand_request h w false true n serve k = λ s cells.
     let r = serve_parent (h.shown n) serve s cells in
-    kept-own s cells r (h.allocated (is_some r.answer) n (own_of r.state)) (counted-none h e w n r.answer (own_of r.state)) (keeps-serve_parent (h.shown n) serve k s cells)
-keeps-hand_request h e w false false n serve k = λ s cells.
-    kept-own s cells (refuse s cells) (h.allocated false n (own_of s)) (counted-none h e w n None (own_of s)) (keeps-refuse s cells)
+    kept-own s cells r (h.allocated (is_some r.answer) n (own_of r.state)) (counted-none h w n r.answer (own_of r.state)) (keeps-serve_parent (h.shown n) serve k s cells)
+keeps-hand_request h w false false n serve k = λ s cells.
+    kept-own s cells (refuse s cells) (h.allocated false n (own_of s)) (counted-none h w n None (own_of s)) (keeps-refuse s cells)
 
-keeps-hand_allocate : (h : Handing) (e : Rules) → HandsDown h e → (n : ℕ) (serve : Serve) → KeepsOnNone serve → KeepsOnNone (hand_allocate h n serve)
-keeps-hand_allocate h e w n serve k s = keeps-hand_request h e w (nat_eq n 0) (nat_le n limit && h.admits n (own_of s)) n serve k s
+keeps-hand_allocate : (h : Handing) → KeepsWhereRefused h → (n : ℕ) (serve : Serve) → KeepsOnNone serve → KeepsOnNone (hand_allocate h n serve)
+keeps-hand_allocate h w n serve k s = keeps-hand_request h w (nat_eq n 0) (nat_le n limit && h.admits n (own_of s)) n serve k s
 
-keeps-hand_aligned : (h : Handing) (e : Rules) → HandsDown h e → (handed : Bool) (n : ℕ) (serve : Serve) → KeepsOnNone serve → KeepsOnNone (hand_aligned h handed n serve)
-keeps-hand_aligned h e w true n serve k = keeps-hand_allocate h e w n serve k
-keeps-hand_aligned h e w false n serve k = keeps-refuse
+keeps-hand_aligned : (h : Handing) → KeepsWhereRefused h → (handed : Bool) (n : ℕ) (serve : Serve) → KeepsOnNone serve → KeepsOnNone (hand_aligned h handed n serve)
+keeps-hand_aligned h w true n serve k = keeps-hand_allocate h w n serve k
+keeps-hand_aligned h w false n serve k = keeps-refuse
 
-counted-false : (h : Handing) (e : Rules) → HandsDown h e → (delta : ℕ) (b : Block) (ok : Bool) (own : Own) → ok ≡ false → without_counts (h.expanded ok delta b own) ≡ without_counts own
-counted-false h e w delta b true own q = absurd (cc)
-counted-false h e w delta b false own q = w.refused.expanded delta b own
+counted-false : (h : Handing) → KeepsWhereRefused h → (delta : ℕ) (b : Block) (ok : Bool) (own : Own) → ok ≡ false → without_counts (h.expanded ok delta b own) ≡ without_counts own
+counted-false h w delta b true own q = absurd (cc)
+counted-false h w delta b false own q = w.expanded delta b own
 
-kept-hand_expansion : (h : Handing) (e : Rules) → HandsDown h e → (none goes enough : Bool) (delta : ℕ) (change : Change) (b down : Block) (s : State) (cells : Cells) → KeepsOnFalse change → KeptOnFalse s cells (hand_expansion h none goes enough delta change b down s cells)
-kept-hand_expansion h e w true goes enough delta change b down s cells k = keeps-say true b s cells
-kept-hand_expansion h e w false false enough delta change b down s cells k =
-    kept-own_on_false s cells (after false s cells) (h.expanded false delta b (own_of s)) (counted-false h e w delta b false (own_of s)) (keeps-say false b s cells)
-kept-hand_expansion h e w false true true delta change b down s cells k =
-    kept-own_on_false s cells (after true s cells) (h.expanded true delta b (own_of s)) (counted-false h e w delta b true (own_of s)) (keeps-say true b s cells)
-kept-hand_expansion h e w false true false delta change b down s cells k =
+kept-hand_expansion : (h : Handing) → KeepsWhereRefused h → (none goes enough : Bool) (delta : ℕ) (change : Change) (b down : Block) (s : State) (cells : Cells) → KeepsOnFalse change → KeptOnFalse s cells (hand_expansion h none goes enough delta change b down s cells)
+kept-hand_expansion h w true goes enough delta change b down s cells k = keeps-say true b s cells
+kept-hand_expansion h w false false enough delta change b down s cells k =
+    kept-own_on_false s cells (after false s cells) (h.expanded false delta b (own_of s)) (counted-false h w delta b false (own_of s)) (keeps-say false b s cells)
+kept-hand_expansion h w false true true delta change b down s cells k =
+    kept-own_on_false s cells (after true s cells) (h.expanded true delta b (own_of s)) (counted-false h w delta b true (own_of s)) (keeps-say true b s cells)
+kept-hand_expansion h w false true false delta change b down s cells k =
     let r = change_child 0 change down s cells in
-    kept-own_on_false s cells r (h.expanded r.answer delta b (own_of r.state)) (counted-false h e w delta b r.answer (own_of r.state)) (keeps-change_child 0 change k down s cells)
+    kept-own_on_false s cells r (h.expanded r.answer delta b (own_of r.state)) (counted-false h w delta b r.answer (own_of r.state)) (keeps-change_child 0 change k down s cells)
 
-keeps-hand_expand : (h : Handing) (e : Rules) → HandsDown h e → RefusingLaws e → (delta : ℕ) → KeepsOnFalse (hand_expand h e delta)
+keeps-hand_expand : (h : Handing) (e : Rules) → KeepsWhereRefused h → RefusedLaws e → (delta : ℕ) → KeepsOnFalse (hand_expand h e delta)
 keeps-hand_expand h e w p delta b s cells =
     let d = h.asked (b.len + delta) - h.asked b.len in
-    kept-hand_expansion h e w (nat_eq delta 0) (nat_le (b.len + delta) limit && h.admits delta (own_of s)) (nat_eq (h.asked b.len) (h.asked (b.len + delta))) delta (change_if h.expands (e.expand d)) b (h.down b) s cells
+    kept-hand_expansion h w (nat_eq delta 0) (nat_le (b.len + delta) limit && h.admits delta (own_of s)) (nat_eq (h.asked b.len) (h.asked (b.len + delta))) delta (change_if h.expands (e.expand d)) b (h.down b) s cells
     (keeps-change_if h.expands (e.expand d) (p.expand d))
 
 unmoved-shown_by : (shown : Block → Block) (r : Reallocated) → shown_by shown r ≡ unmoved → r ≡ unmoved
@@ -123,27 +125,27 @@ unmoved-shown_by shown (moved_to b) q = absurd (cc)
 unmoved-shown_by shown emptied q = absurd (cc)
 unmoved-shown_by shown unmoved q = refl
 
-keeps-hand_move : (h : Handing) (e : Rules) → HandsDown h e → RefusingLaws e → (n : ℕ) → KeepsUnmoved (hand_move h e n)
+keeps-hand_move : (h : Handing) (e : Rules) → KeepsWhereRefused h → RefusedLaws e → (n : ℕ) → KeepsUnmoved (hand_move h e n)
 keeps-hand_move h e w p n =
     let serve = hand_allocate h n (e.allocate (h.asked n)) in
     let give = hand_deallocate h e.deallocate in
     let parent = e.reallocate (h.asked n) in
     keeps-either_reallocate h.moves (general_reallocate n h.offers (λ d. hand_expand h e d) serve give) (λ b s cells. answering (shown_by (h.shown n)) (reallocate_child 0 parent (h.down b) s cells))
-    (keeps-general_reallocate n h.offers (λ d. hand_expand h e d) serve give (λ d. keeps-hand_expand h e w p d) (keeps-hand_allocate h e w n (e.allocate (h.asked n)) (p.allocate (h.asked n))))
+    (keeps-general_reallocate n h.offers (λ d. hand_expand h e d) serve give (λ d. keeps-hand_expand h e w p d) (keeps-hand_allocate h w n (e.allocate (h.asked n)) (p.allocate (h.asked n))))
     (λ b s cells q. keeps-reallocate_child 0 parent (p.reallocate (h.asked n)) (h.down b) s cells (unmoved-shown_by (h.shown n) (reallocate_child 0 parent (h.down b) s cells).answer q))
 
-counted-unmoved : (h : Handing) (e : Rules) → HandsDown h e → (n : ℕ) (b : Block) (r : Reallocated) (own : Own) → r ≡ unmoved → without_counts (h.reallocated n b r own) ≡ without_counts own
-counted-unmoved h e w n b r own q = subst (λ r. without_counts (h.reallocated n b r own) ≡ without_counts own) (sym q) (w.refused.reallocated n b own)
+counted-unmoved : (h : Handing) → KeepsWhereRefused h → (n : ℕ) (b : Block) (r : Reallocated) (own : Own) → r ≡ unmoved → without_counts (h.reallocated n b r own) ≡ without_counts own
+counted-unmoved h w n b r own q = subst (λ r. without_counts (h.reallocated n b r own) ≡ without_counts own) (sym q) (w.reallocated n b own)
 
-keeps-hand_reallocation : (h : Handing) (e : Rules) → HandsDown h e → (uncounted_call : Bool) (n : ℕ) (give : Change) (move : Reallocate) → KeepsUnmoved move → KeepsUnmoved (hand_reallocation h uncounted_call n give move)
-keeps-hand_reallocation h e w true n give move k = keeps-asked_to_reallocate n give move k
-keeps-hand_reallocation h e w false n give move k = λ b s cells.
+keeps-hand_reallocation : (h : Handing) → KeepsWhereRefused h → (uncounted_call : Bool) (n : ℕ) (give : Change) (move : Reallocate) → KeepsUnmoved move → KeepsUnmoved (hand_reallocation h uncounted_call n give move)
+keeps-hand_reallocation h w true n give move k = keeps-asked_to_reallocate n give move k
+keeps-hand_reallocation h w false n give move k = λ b s cells.
     let r = asked_to_reallocate n give move b s cells in
-    kept-own_unmoved s cells r (h.reallocated n b r.answer (own_of r.state)) (counted-unmoved h e w n b r.answer (own_of r.state)) (keeps-asked_to_reallocate n give move k b s cells)
+    kept-own_unmoved s cells r (h.reallocated n b r.answer (own_of r.state)) (counted-unmoved h w n b r.answer (own_of r.state)) (keeps-asked_to_reallocate n give move k b s cells)
 
-keeps-hand_reallocate : (h : Handing) (e : Rules) → HandsDown h e → RefusingLaws e → (n : ℕ) → KeepsUnmoved (hand_reallocate h e n)
+keeps-hand_reallocate : (h : Handing) (e : Rules) → KeepsWhereRefused h → RefusedLaws e → (n : ℕ) → KeepsUnmoved (hand_reallocate h e n)
 keeps-hand_reallocate h e w p n b =
-    keeps-hand_reallocation h e w (nat_eq n b.len || nat_eq n 0) n (hand_deallocate h e.deallocate) (λ c. either_reallocate (h.in_place c.len n) (in_place n) (hand_move h e n) c)
+    keeps-hand_reallocation h w (nat_eq n b.len || nat_eq n 0) n (hand_deallocate h e.deallocate) (λ c. either_reallocate (h.in_place c.len n) (in_place n) (hand_move h e n) c)
     (λ c. keeps-either_reallocate (h.in_place c.len n) (in_place n) (hand_move h e n) (keeps-in_place n) (keeps-hand_move h e w p n) c) b
 
 -- ---- refusing: when a request is refused
@@ -178,34 +180,39 @@ none-hand_aligned h false n serve refuses s cells f = either (nat_eq n 0)
     either true = refl
     either false = refl
 
-hand-tails : (h : Handing) (e : Rules) → RefusingLaws e → TailLaws e → (s : State) (cells : Cells) → IsSettled (handing_rules h e) s cells → e.has_free_tails (child s 0) ≡ true
+hand-tails : (h : Handing) (e : Rules) → RefusedLaws e → TailLaws e → (s : State) (cells : Cells) → IsSettled (handing_rules h e) s cells → e.has_free_tails (child s 0) ≡ true
 hand-tails h e p t closed cells z = t.shut
 hand-tails h e p t (open_with own ss) cells z = p.free_tails (child (open_with own ss) 0) cells (hand-opened h e (open_with own ss) cells refl z).below
 
-refuses-same : (h : Handing) (e : Rules) → HandsDown h e → (n : ℕ) (refuses : State → Cells → Bool) (s t : State) (cells : Cells) → uncounted s ≡ uncounted t
+refuses-same : (h : Handing) → KeepsWhereRefused h → (n : ℕ) (refuses : State → Cells → Bool) (s t : State) (cells : Cells) → uncounted s ≡ uncounted t
     → refuses (child s 0) cells ≡ refuses (child t 0) cells → hand_refuses h n refuses s cells ≡ hand_refuses h n refuses t cells
-refuses-same h e w n refuses s t cells q r = rw (w.refused.admits n (own_of s) (own_of t) (same-own s t q), r) refl
+refuses-same h w n refuses s t cells q r = rw (w.admits n (own_of s) (own_of t) (same-own s t q), r) refl
 
-pub hand-refusing : (h : Handing) (e : Rules) → HandsDown h e → TailLaws e → RefusingLaws e → RefusingLaws (handing_rules h e)
+pub hand-refused : (h : Handing) (e : Rules) → KeepsWhereRefused h → TailLaws e → RefusedLaws e → RefusedLaws (handing_rules h e)
 unfolding handing_rules
-hand-refusing h e w t p =
+hand-refused h e w t p =
     record {
-      allocate = λ n. keeps-hand_allocate h e w n (e.allocate (h.asked n)) (p.allocate (h.asked n));
-      aligned_allocate = λ n a. keeps-hand_aligned h e w h.aligns n (e.aligned_allocate (h.asked n) a) (p.aligned_allocate (h.asked n) a);
+      allocate = λ n. keeps-hand_allocate h w n (e.allocate (h.asked n)) (p.allocate (h.asked n));
+      aligned_allocate = λ n a. keeps-hand_aligned h w h.aligns n (e.aligned_allocate (h.asked n) a) (p.aligned_allocate (h.asked n) a);
       expand = λ delta. keeps-hand_expand h e w p delta;
       reallocate = λ n. keeps-hand_reallocate h e w p n;
-      none = λ n s cells f.
-          none-hand_allocate h n (e.allocate (h.asked n)) (e.refuses (h.asked n)) s cells (λ l.
-          none-parent (h.shown n) (h.asked n) (e.allocate (h.asked n)) s cells (e.refuses (h.asked n) (child s 0) cells) (w.asked_some n l) (p.none (h.asked n) (child s 0) cells f));
-      none_aligned = λ n a s cells.
-          none-hand_aligned h h.aligns n (e.aligned_allocate (h.asked n) a) (e.refuses_aligned (h.asked n) a) s cells (λ l.
-          none-parent (h.shown n) (h.asked n) (e.aligned_allocate (h.asked n) a) s cells (e.refuses_aligned (h.asked n) a (child s 0) cells) (w.asked_some n l) (p.none_aligned (h.asked n) a (child s 0) cells));
       free_tails = hand-tails h e p t;
-      refuses_uncounted = λ n s u cells q. refuses-same h e w n (e.refuses (h.asked n)) s u cells q (p.refuses_uncounted (h.asked n) (child s 0) (child u 0) cells (same-child s u 0 q));
+      refuses_uncounted = λ n s u cells q. refuses-same h w n (e.refuses (h.asked n)) s u cells q (p.refuses_uncounted (h.asked n) (child s 0) (child u 0) cells (same-child s u 0 q));
       refuses_aligned_uncounted = λ n a s u cells q.
-          ap (λ x. not h.aligns || x) (refuses-same h e w n (e.refuses_aligned (h.asked n) a) s u cells q (p.refuses_aligned_uncounted (h.asked n) a (child s 0) (child u 0) cells (same-child s u 0 q)));
+          ap (λ x. not h.aligns || x) (refuses-same h w n (e.refuses_aligned (h.asked n) a) s u cells q (p.refuses_aligned_uncounted (h.asked n) a (child s 0) (child u 0) cells (same-child s u 0 q)));
       free_tails_uncounted = λ s u q. p.free_tails_uncounted (child s 0) (child u 0) (same-child s u 0 q);
     }
+
+pub hand-refusing : (h : Handing) (e : Rules) → HandsDown h e → RefusingLaws e → RefusedLaws (handing_rules h e) → RefusingLaws (handing_rules h e)
+unfolding handing_rules
+hand-refusing h e w p k =
+    refused-refusing (handing_rules h e) k
+    (λ n s cells f.
+    none-hand_allocate h n (e.allocate (h.asked n)) (e.refuses (h.asked n)) s cells (λ l.
+    none-parent (h.shown n) (h.asked n) (e.allocate (h.asked n)) s cells (e.refuses (h.asked n) (child s 0) cells) (w.asked_some n l) (p.none (h.asked n) (child s 0) cells f)))
+    (λ n a s cells.
+    none-hand_aligned h h.aligns n (e.aligned_allocate (h.asked n) a) (e.refuses_aligned (h.asked n) a) s cells (λ l.
+    none-parent (h.shown n) (h.asked n) (e.aligned_allocate (h.asked n) a) s cells (e.refuses_aligned (h.asked n) a (child s 0) cells) (w.asked_some n l) (p.none_aligned (h.asked n) a (child s 0) cells)))
 
 -- ---- tails
 
@@ -297,20 +304,28 @@ hand-openness h e =
 
 -- ---- owning
 
-pub hand-owning : (h : Handing) (e : Rules) → HandsDown h e → OwningLaws e → OwningLaws (handing_rules h e)
+hand-along : (h : Handing) (e : Rules) → OwningLaws e → (path : List ℕ) (possible : Bool) (b : Block) (s : State) → hand_owns_at h e path possible b s ≡ yes_if possible (hand_owns_at h e path true b s)
+hand-along h e p [] possible b s = along-at_end e.offers.owns (hand_holds h e b s) possible
+hand-along h e p (i ∷ path) possible b s =
+    let below = λ (x : Bool). e.owns_at path x (h.down b) (child s 0) in
+    let fine = is_served_size b.len && h.fits b in
+    along-into_parent i (λ x. below (x && fine)) (along-below fine below (λ x. p.along path x (h.down b) (child s 0))) possible
+
+pub hand-owning : (h : Handing) (e : Rules) → KeepsWhereRefused h → OwningLaws e → OwningLaws (handing_rules h e)
 unfolding handing_rules
 hand-owning h e w p =
     let below = λ (b c : Block). e.owns (h.down b) in
     let asked = λ (b : Block) (s : State). owns_child_if (may_hold b s && h.fits b) 0 (below b) b s in
     record {
       answer = λ b s. owned-child_both (may_hold b s) (h.fits b) 0 (below b) b s (e.holds (h.down b) (child s 0)) (p.answer (h.down b) (child s 0));
-      rest = λ b s. steady-own s (asked b s) (h.owned (own_of (asked b s).state)) (w.refused.owned_steady (own_of (asked b s).state)) (steady-child_if (may_hold b s && h.fits b) 0 (below b) b s (p.rest (h.down b) (child s 0)));
+      rest = λ b s. steady-own s (asked b s) (h.owned (own_of (asked b s).state)) (w.owned_steady (own_of (asked b s).state)) (steady-child_if (may_hold b s && h.fits b) 0 (below b) b s (p.rest (h.down b) (child s 0)));
       not_owned = λ b s.
-          not_owned-own s (asked b s) (h.owned (own_of (asked b s).state)) (w.refused.owned (own_of (asked b s).state)) (not_owned-child_if (may_hold b s && h.fits b) 0 (below b) b s (p.not_owned (h.down b) (child s 0)));
+          not_owned-own s (asked b s) (h.owned (own_of (asked b s).state)) (w.owned (own_of (asked b s).state)) (not_owned-child_if (may_hold b s && h.fits b) 0 (below b) b s (p.not_owned (h.down b) (child s 0)));
       open_holds = λ b s z. open-may_hold b s _ z;
       holds_uncounted = λ b s t q.
           let c = h.down b in
           held-same b s t (h.fits b && e.holds c (child s 0)) (h.fits b && e.holds c (child t 0)) q (ap (λ x. h.fits b && x) (p.holds_uncounted c (child s 0) (child t 0) (same-child s t 0 q)));
+      along = hand-along h e p;
     }
 
 -- ---- taking
@@ -348,14 +363,21 @@ hand-taking h e p =
           (λ q. let w = parent-refuses h.first (e.set_up (h.need need) cells) k e.nodes (λ j. p.names_a_node (h.need need) cells j) q in omega arith) z;
     }
 
-pub hand-regular : HandingIsRegular
-hand-regular h e w g =
+-- ---- the whole
+
+-- whatever it hands down
+pub hand-unranged : (h : Handing) (e : Rules) → KeepsWhereRefused h → UnrangedLaws e → UnrangedLaws (handing_rules h e)
+hand-unranged h e w g =
     record {
-      telling = hand-telling h e w g.telling;
       reading = hand-reading h e w g.reading;
-      refusing = hand-refusing h e w g.tails g.refusing;
+      refused = hand-refused h e w g.tails g.refused;
       tails = hand-tail_laws h e g.tails;
       openness = hand-openness h e;
       owning = hand-owning h e w g.owning;
       taking = hand-taking h e g.taking;
     }
+
+pub hand-regular : HandingIsRegular
+hand-regular h e w g =
+    let u = hand-unranged h e w.refused (regular-unranged e g) in
+    unranged-regular (handing_rules h e) u (hand-telling h e w g.telling) (hand-refusing h e w g.refusing u.refused)

@@ -14,7 +14,8 @@ use Rattle.layer_laws.specs.Lawful.{IsMade, most_nodes, most_layers}
 use Rattle.layer_laws.specs.HandsDown.{HandsDown}
 use Rattle.layer_laws.specs.Steps.{one-more}
 use Rattle.layer_laws.specs.StandingLaws.{made-shut, shut-stands, framing}
-use Rattle.layer_laws.specs.HandingLawful.{hand-parts, out-hand, hand-lawful}
+use Rattle.layer_laws.specs.HandingLawful.{hand-lawful}
+use Rattle.layer_laws.specs.HandingParts.{hand-parts, out-hand}
 use Rattle.layer_laws.specs.HandingRegular.{hand-regular}
 
 pub hand-made : (h : Handing) (e : Rules) → HandsDown h e → e.nodes + 1 ≤ most_nodes → e.depth + 1 ≤ most_layers → IsMade e → IsMade (handing_rules h e)

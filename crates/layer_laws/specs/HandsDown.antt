@@ -4,7 +4,7 @@ use Rattle.size_round.specs.Sizes.{limit}
 use Rattle.layer_rules.specs.declared.Block.{Block}
 use Rattle.layer_rules.specs.Blocks.{end_of, with_len}
 use Rattle.layer_rules.specs.State.{Own, without_counts}
-use Rattle.layer_rules.specs.After.{unmoved}
+use Rattle.layer_rules.specs.After.{Reallocated, unmoved}
 use Rattle.layer_rules.specs.Steady.{own_steady}
 use Rattle.layer_rules.specs.Unread.{own_unread}
 use Rattle.layer_rules.specs.Rules.{Rules, HasSomeTags}
@@ -33,6 +33,11 @@ pub record GrowsDown (h : Handing) (b : Block) (delta : ℕ) : Type 0 where
   pub fits : h.fits (with_len b (b.len + delta)) ≡ true
   pub down : h.down (with_len b (b.len + delta)) ≡ with_len (h.down b) ((h.down b).len + (h.asked (b.len + delta) - h.asked b.len))
 
+-- a block that gets another length where it stands is handed down as before
+pub record IsAsBefore (h : Handing) (b : Block) (n : ℕ) : Type 0 where
+  pub fits : h.fits (with_len b n) ≡ true
+  pub down : h.down (with_len b n) ≡ h.down b
+
 -- a good size is enough, and is the size itself where no layer serves that; the alignment is one, and what the parent's alignment leaves
 pub record TellsWell (h : Handing) (e : Rules) : Type 0 where
   pub enough : (n : ℕ) → n ≤ h.good_alloc_size n
@@ -48,6 +53,8 @@ pub record KeepsInOrder (h : Handing) : Type 0 where
   pub expanded : (ok : Bool) (delta : ℕ) (b : Block) (own : Own) → h.passes own ≡ true → (ok ≡ true → h.admits delta own ≡ true) → h.passes (h.expanded ok delta b own) ≡ true
   pub deallocated : (ok : Bool) (b : Block) (own : Own) → h.passes own ≡ true → h.passes (h.deallocated ok b own) ≡ true
   pub all_deallocated : (own : Own) → h.passes own ≡ true → h.passes (h.all_deallocated own) ≡ true
+  pub reallocated : (n : ℕ) (b : Block) (r : Reallocated) (own : Own) → h.passes own ≡ true → h.passes (h.reallocated n b r own) ≡ true
+  pub owned : (own : Own) → h.passes own ≡ true → h.passes (h.owned own) ≡ true
 
 -- where a call is refused no number changes but statistics, and whether a request goes down goes by no statistics
 pub record KeepsWhereRefused (h : Handing) : Type 0 where
@@ -70,10 +77,15 @@ pub record HandsDown (h : Handing) (e : Rules) : Type 0 where
   pub wider : (b : Block) → h.fits b ≡ true → IsWider h b
   pub longer : (b : Block) (delta : ℕ) → h.fits b ≡ true → GrowsDown h b delta
   pub asked_some : (n : ℕ) → 1 ≤ n → 1 ≤ h.asked n
+  -- where requests at an alignment are handed down, what the parent gives is shown at its place
+  pub placed : h.aligns ≡ true → (n : ℕ) (b : Block) → (h.shown n b).place ≡ b.place
   pub tells : TellsWell h e
   pub in_order : KeepsInOrder h
   pub refused : KeepsWhereRefused h
   pub round : KeepsRound h
+  -- a reallocation in place, and blocks that are handed down at one place, which have one place
+  pub in_place : (b : Block) (n : ℕ) → h.fits b ≡ true → h.in_place b.len n ≡ true → IsAsBefore h b n
+  pub one_place : (b c : Block) → h.fits b ≡ true → h.fits c ≡ true → (h.down b).place ≡ (h.down c).place → b.place ≡ c.place
 
 -- what a `Handing` that hands down gives over a regular parent, and over one that is lawful too
 abbrev pub HandingIsRegular : Type 0

@@ -5,15 +5,18 @@ use Rattle.size_round.specs.Sizes.{limit}
 use Rattle.size_round.specs.SizeMeanings.{IsPower, IsMultiple}
 use Rattle.space_core.specs.Cells.{Cells}
 use Rattle.space_core.specs.Memory.{most_cells}
+use Rattle.layer_rules.specs.declared.Asked.{Asked}
+use Rattle.layer_rules.specs.declared.Asked.TheVariants.{Yes, No}
 use Rattle.layer_rules.specs.declared.Block.{Block}
 use Rattle.layer_rules.specs.Blocks.{end_of}
 use Rattle.layer_rules.specs.Fields.{Fields, are_open, closed_fields}
 use Rattle.layer_rules.specs.State.{State, closed, is_open, uncounted}
 use Rattle.layer_rules.specs.Steady.{steady}
 use Rattle.layer_rules.specs.Unread.{unread}
-use Rattle.layer_rules.specs.After.{After, Placed, Serve, Opened, Change, Reallocated, unmoved, Reallocate}
+use Rattle.layer_rules.specs.After.{After, Placed, Serve, Opened, Change, Reallocated, moved_to, emptied, unmoved, Reallocate}
+use Rattle.layer_rules.specs.Layering.{is_done}
 use Rattle.layer_rules.specs.Offering.{full_alignment}
-use Rattle.layer_rules.specs.Rules.{Rules, IsLeaf, IsSettled, AreApart, longer_if, HasDistinctTags, HasSomeTags}
+use Rattle.layer_rules.specs.Rules.{Rules, IsLeaf, IsSettled, AreApart, longer_if, owns_along, HasDistinctTags, HasSomeTags}
 use Rattle.layer_rules.specs.Testing.{has_no_cells}
 
 -- ==== families that every form has
@@ -106,14 +109,21 @@ pub record OpennessLaws (e : Rules) : Type 0 where
   pub owns : (b : Block) (s : State) → is_open (e.owns b s).state ≡ is_open s
   pub set_up : (need : ℕ) (cells : Cells) (o : Opened) → e.set_up need cells ≡ Ok o → is_open o.state ≡ true
 
+-- the answer, but a yes is a no where the test is false
+abbrev pub yes_if : Bool → Asked → Asked
+yes_if true answer = answer
+yes_if false Yes = No
+yes_if false answer = answer
+
 -- ---- owning: `owns` answers what `holds` says, which goes by no statistics; it changes orders of use and statistics alone, and on a no
--- statistics alone
+-- statistics alone. Where a layer on the way of a path can't have the block, all that changes of the answer is that a yes is a no
 pub record OwningLaws (e : Rules) : Type 0 where
   pub answer : (b : Block) (s : State) → (e.owns b s).owned ≡ e.holds b s
   pub rest : (b : Block) (s : State) → steady (e.owns b s).state ≡ steady s
   pub not_owned : (b : Block) (s : State) → (e.owns b s).owned ≡ false → uncounted (e.owns b s).state ≡ uncounted s
   pub open_holds : (b : Block) (s : State) → e.holds b s ≡ true → is_open s ≡ true
   pub holds_uncounted : (b : Block) (s t : State) → uncounted s ≡ uncounted t → e.holds b s ≡ e.holds b t
+  pub along : (path : List ℕ) (possible : Bool) (b : Block) (s : State) → e.owns_at path possible b s ≡ yes_if possible (owns_along e path b s)
 
 -- ---- taking: a layer takes free cells for its own leaves, and changes no other, as it serves and as it is set up
 
@@ -145,15 +155,39 @@ pub record IsRegular (e : Rules) : Type 0 where
   pub owning : OwningLaws e
   pub taking : TakingLaws e
 
+-- ---- what holds of a form whatever its numbers are
+
+-- of `RefusingLaws` all but when a request is refused
+pub record RefusedLaws (e : Rules) : Type 0 where
+  pub allocate : (n : ℕ) → KeepsOnNone (e.allocate n)
+  pub aligned_allocate : (n a : ℕ) → KeepsOnNone (e.aligned_allocate n a)
+  pub expand : (delta : ℕ) → KeepsOnFalse (e.expand delta)
+  pub reallocate : (n : ℕ) → KeepsUnmoved (e.reallocate n)
+  pub free_tails : (s : State) (cells : Cells) → IsSettled e s cells → e.has_free_tails s ≡ true
+  pub refuses_uncounted : (n : ℕ) (s t : State) (cells : Cells) → uncounted s ≡ uncounted t → e.refuses n s cells ≡ e.refuses n t cells
+  pub refuses_aligned_uncounted : (n a : ℕ) (s t : State) (cells : Cells) → uncounted s ≡ uncounted t → e.refuses_aligned n a s cells ≡ e.refuses_aligned n a t cells
+  pub free_tails_uncounted : (s t : State) → uncounted s ≡ uncounted t → e.has_free_tails s ≡ e.has_free_tails t
+
+-- Telling needs numbers in range, and so does when a request is refused: where lengths are rounded to multiples of 0, the parent is asked
+-- for 0 bytes, and serves nothing without refusing.
+pub record UnrangedLaws (e : Rules) : Type 0 where
+  pub reading : ReadingLaws e
+  pub refused : RefusedLaws e
+  pub tails : TailLaws e
+  pub openness : OpennessLaws e
+  pub owning : OwningLaws e
+  pub taking : TakingLaws e
+
 -- ==== families on blocks that are out, for layers whose leaves have tags of their own
 
 -- ---- keeping: what calls keep and give
 
--- a request: the layer is sound again, extents stay, who is out stays out, and the new block is out and apart from all that were
+-- a request: the layer is sound again, extents stay, who is out stays out with its route, and the new block is out and apart from all that were
 pub record IsGood (e : Rules) (s : State) (cells : Cells) (n : ℕ) (r : After (Option Placed)) : Type 0 where
   pub is_set : is_open r.state ≡ true
   pub settled : IsSettled e r.state r.cells
   pub extents : (b : Block) → e.extent b r.state ≡ e.extent b s
+  pub routes : (b : Block) → e.is_out b s cells ≡ true → e.route b r.state ≡ e.route b s
   pub stays : (b : Block) → e.is_out b s cells ≡ true → e.is_out b r.state r.cells ≡ true
   pub len : (p : Placed) → r.answer ≡ Some p → p.block.len ≡ n
   pub out : (p : Placed) → r.answer ≡ Some p → e.is_out p.block r.state r.cells ≡ true
@@ -171,6 +205,7 @@ pub record IsFreed (e : Rules) (s : State) (cells : Cells) (b : Block) (r : Afte
   pub is_set : is_open r.state ≡ true
   pub settled : IsSettled e r.state r.cells
   pub extents : (c : Block) → e.extent c r.state ≡ e.extent c s
+  pub routes : (c : Block) → e.is_out c s cells ≡ true → AreApart e s b c → e.route c r.state ≡ e.route c s
   pub stays : (c : Block) → e.is_out c s cells ≡ true → AreApart e s b c → e.is_out c r.state r.cells ≡ true
   pub table : OnlyFreed (IsLeaf e) cells r.cells
 
@@ -182,6 +217,7 @@ pub record IsGrown (e : Rules) (s : State) (cells : Cells) (b : Block) (delta : 
   pub is_set : is_open r.state ≡ true
   pub settled : IsSettled e r.state r.cells
   pub extents : (c : Block) → e.extent c r.state ≡ e.extent c s
+  pub routes : (c : Block) → e.is_out c s cells ≡ true → (r.answer ≡ true → AreApart e s b c) → e.route c r.state ≡ e.route c s
   pub stays : (c : Block) → e.is_out c s cells ≡ true → (r.answer ≡ true → AreApart e s b c) → e.is_out c r.state r.cells ≡ true
   pub out : e.is_out (longer_if r.answer delta b) r.state r.cells ≡ true
   pub fresh : (c : Block) → e.is_out c s cells ≡ true → AreApart e s b c → AreApart e s (longer_if r.answer delta b) c
@@ -200,6 +236,65 @@ pub record IsEmptied (e : Rules) (cells : Cells) (o : Opened) : Type 0 where
 abbrev pub Emptying : Rules → Type 0
 Emptying e = (s : State) (cells : Cells) → is_open s ≡ true → IsSettled e s cells → IsEmptied e cells (e.deallocate_all s cells)
 
+-- ---- aligned requests: as any other, and at a multiple of what is asked
+
+-- a block that is answered is at a multiple of a
+abbrev pub AtMultiple : (a : ℕ) → Option Placed → Type 0
+AtMultiple a o = (p : Placed) → o ≡ Some p → IsMultiple p.block.place a
+
+pub record IsAlignedGood (e : Rules) (s : State) (cells : Cells) (n a : ℕ) (r : After (Option Placed)) : Type 0 where
+  pub good : IsGood e s cells n r
+  pub aligned : AtMultiple a r.answer
+
+abbrev pub AlignedGood : Rules → Type 0
+AlignedGood e =
+    (n a : ℕ) (s : State) (cells : Cells) → IsPower a → a ≤ 4096 → is_open s ≡ true → IsSettled e s cells → IsAlignedGood e s cells n a (e.aligned_allocate n a s cells)
+
+-- ---- reallocating: a block gets another length, here or elsewhere
+
+-- a cell is as before, or it was free or the leaves' own and is so still
+abbrev pub IsFreeOrOwn : Rules → (tag : ℕ) → Type 0
+IsFreeOrOwn e tag = (tag ≡ 0) ⊎ IsLeaf e tag
+
+abbrev pub OnlyOwnChanged : Rules → (old new : Cells) → Type 0
+OnlyOwnChanged e old new =
+    (c : ℕ) → (get_or new.tags c 0 ≡ get_or old.tags c 0) ⊎ (IsFreeOrOwn e (get_or old.tags c 0) × IsFreeOrOwn e (get_or new.tags c 0))
+
+-- Where it is refused each block stays out with its route; where it is done those that are apart from the old block, and they are apart
+-- from the new one. This stands where the old one stood, or apart from it. Only for 0 bytes there is no block then.
+pub record IsReallocated (e : Rules) (s : State) (cells : Cells) (b : Block) (n : ℕ) (r : After Reallocated) : Type 0 where
+  pub is_set : is_open r.state ≡ true
+  pub settled : IsSettled e r.state r.cells
+  pub extents : (c : Block) → e.extent c r.state ≡ e.extent c s
+  pub routes : (c : Block) → e.is_out c s cells ≡ true → (is_done r.answer ≡ true → AreApart e s b c) → e.route c r.state ≡ e.route c s
+  pub stays : (c : Block) → e.is_out c s cells ≡ true → (is_done r.answer ≡ true → AreApart e s b c) → e.is_out c r.state r.cells ≡ true
+  pub len : (c : Block) → r.answer ≡ moved_to c → c.len ≡ n
+  pub out : (c : Block) → r.answer ≡ moved_to c → e.is_out c r.state r.cells ≡ true
+  pub fresh : (c : Block) → r.answer ≡ moved_to c → (d : Block) → e.is_out d s cells ≡ true → AreApart e s b d → AreApart e s c d
+  pub place : (c : Block) → r.answer ≡ moved_to c → (c.place ≡ b.place) ⊎ AreApart e s c b
+  pub empty : n ≡ 0 → r.answer ≡ emptied
+  pub some : r.answer ≡ emptied → n ≡ 0
+  pub table : OnlyOwnChanged e cells r.cells
+
+abbrev pub Reallocating : Rules → Type 0
+Reallocating e =
+    (n : ℕ) (b : Block) (s : State) (cells : Cells) → is_open s ≡ true → IsSettled e s cells → e.is_out b s cells ≡ true → IsReallocated e s cells b n (e.reallocate n b s cells)
+
+-- ---- asking who owns a block: all that is told of blocks stays, and so does soundness
+
+pub record KeepsTold (e : Rules) (s t : State) (cells : Cells) : Type 0 where
+  pub settled : IsSettled e t cells
+  pub extents : (c : Block) → e.extent c t ≡ e.extent c s
+  pub routes : (c : Block) → e.is_out c s cells ≡ true → e.route c t ≡ e.route c s
+  pub out : (c : Block) → e.is_out c t cells ≡ e.is_out c s cells
+  pub clean : (c : Block) (bytes : List ℕ) → e.is_clean c t bytes ≡ e.is_clean c s bytes
+  pub marked : (c : Block) (bytes : List ℕ) → e.is_marked c t bytes ≡ e.is_marked c s bytes
+
+abbrev pub OwnsKeeping : Rules → Type 0
+OwnsKeeping e = (b : Block) (s : State) (cells : Cells) → IsSettled e s cells → KeepsTold e s (e.owns b s).state cells
+
+-- ---- all that calls keep and give
+
 pub record KeepingLaws (e : Rules) : Type 0 where
   -- what is out has a byte, and its layer is open
   pub out_some : (b : Block) (s : State) (cells : Cells) → e.is_out b s cells ≡ true → 1 ≤ b.len
@@ -208,6 +303,9 @@ pub record KeepingLaws (e : Rules) : Type 0 where
   pub freed : Freeing e
   pub grown : Growing e
   pub emptied : Emptying e
+  pub reallocated : Reallocating e
+  pub aligned : AlignedGood e
+  pub owned : OwnsKeeping e
 
 -- ---- placing: where blocks lie, and what changes of the table outside the leaves' cells leave
 

@@ -18,7 +18,7 @@ use Rattle.layer_rules.specs.Testing.{is_nothing}
 use Rattle.layer_rules.specs.Members.{nth, nodes_of, facts_each, tags_of, least_alignment, open_each, empty_each, read_each, are_images, have_free_tails, are_settled, group_settled}
 use Rattle.layer_laws.specs.Basics.{and-fst, and-snd}
 use Rattle.layer_laws.specs.Children.{child_count, child-case, child-keeps, set-count, runs-apart, apart-either}
-use Rattle.layer_laws.specs.Lawful.{IsAlignment, TellingLaws, IsEmptied, OnlyFreed, OnlyOwnCells, Covering, TagsKept, NoCell, IsRegular, IsLawful, ChangesInside, OwnKept, Covers}
+use Rattle.layer_laws.specs.Lawful.{IsAlignment, TellingLaws, IsEmptied, OnlyFreed, OnlyOwnCells, IsFreeOrOwn, OnlyOwnChanged, Covering, TagsKept, NoCell, IsRegular, IsLawful, ChangesInside, OwnKept, Covers, ReadingLaws, RefusedLaws, TailLaws, TakingLaws, UnrangedLaws}
 use Rattle.layer_laws.specs.Chooses.{EachMember, EachNumber, HaveOwnTags}
 use Rattle.layer_laws.specs.CellRooms.{multiple_of_multiple, power_in_power}
 use Rattle.layer_laws.specs.Steps.{members-refuses}
@@ -26,7 +26,7 @@ use Rattle.layer_laws.specs.StayingOpen.{stays-emptied_child}
 use Rattle.layer_laws.specs.Uncounting.{same-child}
 use Rattle.layer_laws.specs.Unreading.{unread-child_and}
 use Rattle.layer_laws.specs.Takings.{TookEach, took-none, took-wider, took-then_members}
-use Rattle.layer_laws.specs.NullLawful.{null-lawful, null-regular, null-distinct}
+use Rattle.layer_laws.specs.NullLawful.{null-lawful, null-regular, null-unranged, null-distinct}
 
 -- ---- members that each have a property
 
@@ -43,6 +43,9 @@ each-number P (e ∷ es) n h (suc i) = each-number P es n (λ j l. h (suc j) (om
 
 pub all-regular : (es : List Rules) → EachMember IsRegular es → EachNumber IsRegular es
 all-regular es h = each-number IsRegular es null-regular h
+
+pub all-unranged : (es : List Rules) → EachMember UnrangedLaws es → EachNumber UnrangedLaws es
+all-unranged es h = each-number UnrangedLaws es null-unranged h
 
 pub all-lawful : (es : List Rules) → EachMember IsLawful es → EachNumber IsLawful es
 all-lawful es h = each-number IsLawful es null-lawful h
@@ -233,6 +236,14 @@ kept-freed f Leaf old new some d g =
       back = λ c l. elim (g c) [ inl z ↦ sym z | inr z ↦ let y = some.least _ l in absurd (omega (arith, z.0)) ];
     }
 
+pub kept-changed : (e f : Rules) (old new : Cells) → HasSomeTags f → ((t : ℕ) → IsLeaf e t → IsLeaf f t → ⊥) → OnlyOwnChanged e old new → TagsKept f old new
+kept-changed e f old new some d g =
+    let other = λ (t : ℕ) (l : IsLeaf f t) (z : IsFreeOrOwn e t). let x : ⊥ = elim z [ inl q ↦ let y = some.least t l in absurd (omega arith) | inr m ↦ d t m l ] in x in
+    record {
+      at = λ c l. elim (g c) [ inl z ↦ z | inr z ↦ absurd (other _ l z.0) ];
+      back = λ c l. elim (g c) [ inl z ↦ sym z | inr z ↦ absurd (other _ l z.1) ];
+    }
+
 -- two blocks, each out of its member, are apart
 pub covered-apart : (e f : Rules) (s u : State) (cells : Cells) (b c : Block) → Covering e → Covering f → ((t : ℕ) → IsLeaf e t → IsLeaf f t → ⊥)
     → IsSettled e s cells → e.is_out b s cells ≡ true → IsSettled f u cells → f.is_out c u cells ≡ true → is_apart (e.extent b s) (f.extent c u) ≡ true
@@ -360,12 +371,12 @@ fresh-members e es o ss cells a s g zero l = (a, s)
 fresh-members e es o ss cells a s g (suc j) l = g j (omega arith)
 
 -- the members' cells alone are taken, of any layer with their leaves
-pub took-each : (f : Rules) (es : List Rules) → ((t : ℕ) → IsIn (tags_of es) t → IsLeaf f t) → EachNumber IsRegular es → (need : ℕ → ℕ) (i node : ℕ) (cells : Cells) → TookEach f cells (open_each es need i node cells)
+pub took-each : (f : Rules) (es : List Rules) → ((t : ℕ) → IsIn (tags_of es) t → IsLeaf f t) → EachNumber TakingLaws es → (need : ℕ → ℕ) (i node : ℕ) (cells : Cells) → TookEach f cells (open_each es need i node cells)
 unfolding open_each
 took-each f [] leaves h need i node cells = took-none f cells no_children
 took-each f (e ∷ es) leaves h need i node cells =
     took-then_members f node (e.set_up (need i) cells) (λ rest. open_each es need (suc i) (node + e.nodes) rest) cells
-    (took-wider e f cells (e.set_up (need i) cells) (λ t l. leaves t (in-left e.leaf_tags (tags_of es) t l)) ((h 0).taking.set_up (need i) cells))
+    (took-wider e f cells (e.set_up (need i) cells) (λ t l. leaves t (in-left e.leaf_tags (tags_of es) t l)) ((h 0).set_up (need i) cells))
     (λ c. took-each f es (λ t l. leaves t (in-right e.leaf_tags (tags_of es) t l)) (λ j. h (suc j)) need (suc i) (node + e.nodes) c)
 
 -- a layer of these tags alone
@@ -392,7 +403,7 @@ opens-each (e ∷ es) w reg law need i node cells p n q =
     let none : NoCell (IsIn (tags_of es)) o.cells =
     λ c l. elim (taken.each c) [ inl z ↦ n c (right _ (subst (IsIn (tags_of es)) z l)) | inr z ↦ distinct-apart e.leaf_tags (tags_of es) _ w.distinct z.1 l ] in
     let g = opens-each es own (λ j. reg (suc j)) (λ j. law (suc j)) need (suc i) (node + e.nodes) o.cells r none x.2.1 in
-    let rest = took-each (tagged (tags_of es)) es (λ t l. l) (λ j. reg (suc j)) need (suc i) (node + e.nodes) o.cells r x.2.1 in
+    let rest = took-each (tagged (tags_of es)) es (λ t l. l) (λ j. (reg (suc j)).taking) need (suc i) (node + e.nodes) o.cells r x.2.1 in
     let kept = kept-taken (tagged (tags_of es)) e o.cells r.1 (record { least = λ t l. w.some t (left t l) }) (λ t l m. distinct-apart e.leaf_tags (tags_of es) t w.distinct m l) rest in
     subst (AreFresh (e ∷ es)) x.2.2 (record {
       count = ap suc g.count;
@@ -404,12 +415,12 @@ group-ok own (Err k) o e = absurd (cc)
 group-ok own (Ok p) o e = let q : opened (open_with own p.0) p.1 ≡ o = cc in (p, refl, q)
 
 -- a refusal names a node of a member
-pub refuses-each : (es : List Rules) → EachNumber IsRegular es → (need : ℕ → ℕ) (i node : ℕ) (cells : Cells) (k : ℕ) → open_each es need i node cells ≡ Err k → k < node + nodes_of es
+pub refuses-each : (es : List Rules) → EachNumber TakingLaws es → (need : ℕ → ℕ) (i node : ℕ) (cells : Cells) (k : ℕ) → open_each es need i node cells ≡ Err k → k < node + nodes_of es
 unfolding open_each
 refuses-each [] law need i node cells k h = absurd (cc)
 refuses-each (e ∷ es) law need i node cells k h =
     members-refuses node (e.set_up (need i) cells) (λ rest. open_each es need (suc i) (node + e.nodes) rest) k (node + (e.nodes + nodes_of es))
-    (λ j q. let w = (law 0).taking.names_a_node (need i) cells j q in omega arith)
+    (λ j q. let w = (law 0).names_a_node (need i) cells j q in omega arith)
     (λ c q. let w = refuses-each es (λ j. law (suc j)) need (suc i) (node + e.nodes) c k q in omega arith) h
 
 -- ---- tails that are served from, and what is read of bytes
@@ -425,14 +436,14 @@ tails-from [] i s h = refl
 tails-from (e ∷ es) i s h =
     and_from _ _ (let q : i + 0 ≡ i = omega arith in rw q at (h 0 (omega arith))) (tails-from es (suc i) s (λ j l. let q : i + suc j ≡ suc i + j = omega arith in rw q at (h (suc j) (omega arith))))
 
-pub tails-uncounted : (es : List Rules) (i : ℕ) (s t : State) → EachNumber IsRegular es → uncounted s ≡ uncounted t → have_free_tails es i s ≡ have_free_tails es i t
+pub tails-uncounted : (es : List Rules) (i : ℕ) (s t : State) → EachNumber RefusedLaws es → uncounted s ≡ uncounted t → have_free_tails es i s ≡ have_free_tails es i t
 tails-uncounted [] i s t h q = refl
-tails-uncounted (e ∷ es) i s t h q = ap₂ (λ x y. x && y) ((h 0).refusing.free_tails_uncounted (child s i) (child t i) (same-child s t i q)) (tails-uncounted es (suc i) s t (λ j. h (suc j)) q)
+tails-uncounted (e ∷ es) i s t h q = ap₂ (λ x y. x && y) ((h 0).free_tails_uncounted (child s i) (child t i) (same-child s t i q)) (tails-uncounted es (suc i) s t (λ j. h (suc j)) q)
 
-pub unread-read_each : (es : List Rules) (i : ℕ) (fs : Fields) (x y : List ℕ) → EachNumber IsRegular es → unread_each (read_each es i fs x) ≡ unread_each (read_each es i fs y)
+pub unread-read_each : (es : List Rules) (i : ℕ) (fs : Fields) (x y : List ℕ) → EachNumber ReadingLaws es → unread_each (read_each es i fs x) ≡ unread_each (read_each es i fs y)
 unread-read_each [] i fs x y h = refl
 unread-read_each (e ∷ es) i fs x y h =
-    unread-child_and (e.read (child_fields fs i) x) (e.read (child_fields fs i) y) (read_each es (suc i) fs x) (read_each es (suc i) fs y) ((h 0).reading.read (child_fields fs i) x y) (unread-read_each es (suc i) fs x y (λ j. h (suc j)))
+    unread-child_and (e.read (child_fields fs i) x) (e.read (child_fields fs i) y) (read_each es (suc i) fs x) (read_each es (suc i) fs y) ((h 0).read (child_fields fs i) x y) (unread-read_each es (suc i) fs x y (λ j. h (suc j)))
 
 -- one member's state changed, and its tails are free
 pub tails-with_child : (es : List Rules) (s : State) (i : ℕ) (t : State) → have_free_tails es 0 s ≡ true → (nth es i).has_free_tails t ≡ true → have_free_tails es 0 (with_child s i t) ≡ true
@@ -441,23 +452,23 @@ tails-with_child es s i t h k =
     (child-keeps s i t (λ u. (nth es j).has_free_tails u ≡ true) j (rw zero-add at (tails-at es 0 j s h)) (λ e. subst (λ n. (nth es n).has_free_tails t ≡ true) (sym e) k)))
 
 -- the tails of what was set up
-pub tails-opened : (es : List Rules) → EachNumber IsRegular es → (need : ℕ → ℕ) (i node : ℕ) (cells : Cells) (p : States × Cells) → open_each es need i node cells ≡ Ok p
+pub tails-opened : (es : List Rules) → EachNumber TailLaws es → (need : ℕ → ℕ) (i node : ℕ) (cells : Cells) (p : States × Cells) → open_each es need i node cells ≡ Ok p
     → (j : ℕ) → j < length es → (nth es j).has_free_tails (nth_child p.0 j) ≡ true
 unfolding open_each
 tails-opened [] h need i node cells p q j l = absurd (omega arith)
 tails-opened (e ∷ es) h need i node cells p q zero l =
     let x = members-ok node (e.set_up (need i) cells) (λ rest. open_each es need (suc i) (node + e.nodes) rest) p q in
-    subst (λ (r : States × Cells). e.has_free_tails (nth_child r.0 0) ≡ true) x.2.2 ((h 0).tails.set_up (need i) cells x.0 x.1)
+    subst (λ (r : States × Cells). e.has_free_tails (nth_child r.0 0) ≡ true) x.2.2 ((h 0).set_up (need i) cells x.0 x.1)
 tails-opened (e ∷ es) h need i node cells p q (suc j) l =
     let x = members-ok node (e.set_up (need i) cells) (λ rest. open_each es need (suc i) (node + e.nodes) rest) p q in
     subst (λ (r : States × Cells). (nth es j).has_free_tails (nth_child r.0 (suc j)) ≡ true) x.2.2 (tails-opened es (λ k. h (suc k)) need (suc i) (node + e.nodes) x.0.cells x.2.0 x.2.1 j (omega arith))
 
 -- as many cells as before, as the members are emptied
-pub count-empty_each : (es : List Rules) → EachNumber IsRegular es → (i : ℕ) (s : State) (cells : Cells) → length (empty_each es i s cells).cells.tags ≡ length cells.tags
+pub count-empty_each : (es : List Rules) → EachNumber TakingLaws es → (i : ℕ) (s : State) (cells : Cells) → length (empty_each es i s cells).cells.tags ≡ length cells.tags
 unfolding empty_each
 count-empty_each [] h i s cells = refl
 count-empty_each (e ∷ es) h i s cells =
-    let r = emptied_child s i e.deallocate_all cells in count-empty_each es (λ k. h (suc k)) (suc i) r.state r.cells ∙ (h 0).taking.deallocate_all_count (child s i) cells
+    let r = emptied_child s i e.deallocate_all cells in count-empty_each es (λ k. h (suc k)) (suc i) r.state r.cells ∙ (h 0).deallocate_all_count (child s i) cells
 
 -- a group stays open as its members are emptied
 pub stays-empty_each : (es : List Rules) (i : ℕ) (s : State) (cells : Cells) → is_open (empty_each es i s cells).state ≡ is_open s

@@ -9,9 +9,11 @@ use Rattle.layer_rules.specs.NullRules.{null_rules}
 use Rattle.layer_rules.specs.Rules.{HasSomeTags, HasDistinctTags, IsSettled}
 use Rattle.layer_rules.specs.Testing.{is_bare}
 use Rattle.space_core.specs.Cells.{Cells}
-use Rattle.layer_laws.specs.Lawful.{TellingLaws, ReadingLaws, RefusingLaws, TailLaws, KeptOnFalse, KeptUnmoved, OpennessLaws, OwningLaws, TakingLaws, OnlyOwnCells, IsRegular, SettledTags, Opens, IsLawful}
+use Rattle.layer_laws.specs.Lawful.{TellingLaws, ReadingLaws, RefusingLaws, RefusedLaws, UnrangedLaws, TailLaws, KeptOnFalse, KeptUnmoved, OpennessLaws, OwningLaws, TakingLaws, OnlyOwnCells, IsRegular, SettledTags, Opens, IsLawful}
 use Rattle.layer_laws.specs.Tests.{set-up-opens, settled-moved, takes-none}
-use Rattle.layer_laws.specs.Steps.{refuse-good}
+use Rattle.layer_laws.specs.Steps.{refuse-good, refuse-aligned, same-told}
+use Rattle.layer_laws.specs.Unranged.{refused-refusing, unranged-regular}
+use Rattle.layer_laws.specs.Paths.{along-at_no_child}
 
 -- ---- what all forms have
 
@@ -48,20 +50,22 @@ or-true : (x : Bool) → true ≡ (x || true)
 or-true true = refl
 or-true false = refl
 
-null-refusing : RefusingLaws null_rules
+null-refused : RefusedLaws null_rules
 unfolding null_rules
-null-refusing = record {
+null-refused = record {
   allocate = λ n s cells e. (refl, refl);
   aligned_allocate = λ n a s cells e. (refl, refl);
   expand = λ delta b s cells. null-expand _ _ b s cells;
   reallocate = λ n b s cells. null-reallocate _ _ _ b s cells;
-  none = λ n s cells t. or-true (nat_eq n 0);
-  none_aligned = λ n a s cells. or-true (nat_eq n 0);
   free_tails = λ s cells h. refl;
   refuses_uncounted = λ n s t cells e. refl;
   refuses_aligned_uncounted = λ n a s t cells e. refl;
   free_tails_uncounted = λ s t e. refl;
 }
+
+null-refusing : RefusingLaws null_rules
+unfolding null_rules
+null-refusing = refused-refusing null_rules null-refused (λ n s cells t. or-true (nat_eq n 0)) (λ n a s cells. or-true (nat_eq n 0))
 
 null-expanded : (p q : Bool) (b : Block) (s : State) (cells : Cells) → is_open (expanded_unless p q (say false) b s cells).state ≡ is_open s
 null-expanded true q b s cells = refl
@@ -89,7 +93,7 @@ null-openness = record {
 
 null-owning : OwningLaws null_rules
 unfolding null_rules
-null-owning = record { answer = λ b s. refl; rest = λ b s. refl; not_owned = λ b s e. refl; open_holds = λ b s h. absurd (cc); holds_uncounted = λ b s t q. refl }
+null-owning = record { answer = λ b s. refl; rest = λ b s. refl; not_owned = λ b s e. refl; open_holds = λ b s h. absurd (cc); holds_uncounted = λ b s t q. refl; along = λ path possible b s. along-at_no_child true path possible }
 
 null-taking : TakingLaws null_rules
 unfolding null_rules
@@ -106,8 +110,11 @@ null-tails : TailLaws null_rules
 unfolding null_rules
 null-tails = record { shut = refl; allocate = λ n s cells h. refl; set_up = λ need cells o q. refl }
 
+pub null-unranged : UnrangedLaws null_rules
+null-unranged = record { reading = null-reading; refused = null-refused; tails = null-tails; openness = null-openness; owning = null-owning; taking = null-taking }
+
 pub null-regular : IsRegular null_rules
-null-regular = record { telling = null-telling; reading = null-reading; refusing = null-refusing; tails = null-tails; openness = null-openness; owning = null-owning; taking = null-taking }
+null-regular = unranged-regular null_rules null-unranged null-telling null-refusing
 
 -- ---- on blocks that are out, of which there is none
 
@@ -131,7 +138,17 @@ pub null-lawful : IsLawful null_rules
 unfolding null_rules
 null-lawful =
     record {
-      keeping = record { out_some = λ b s cells o. absurd (cc); out_open = λ b s cells o. absurd (cc); good = λ n s cells o h. refuse-good null_rules n s cells o h; freed = λ b s cells o h x. absurd (cc); grown = λ delta b s cells o h x. absurd (cc); emptied = λ s cells o h. record { is_set = o; settled = h; none = λ b x. absurd (cc); table = λ c. inl refl } };
+      keeping = record {
+        out_some = λ b s cells o. absurd (cc);
+        out_open = λ b s cells o. absurd (cc);
+        good = λ n s cells o h. refuse-good null_rules n s cells o h;
+        freed = λ b s cells o h x. absurd (cc);
+        grown = λ delta b s cells o h x. absurd (cc);
+        emptied = λ s cells o h. record { is_set = o; settled = h; none = λ b x. absurd (cc); table = λ c. inl refl };
+        reallocated = λ n b s cells o h x. absurd (cc);
+        aligned = λ n a s cells p l o h. refuse-aligned null_rules n a s cells o h;
+        owned = λ b s cells h. same-told null_rules s cells h;
+      };
       placing = record { covers = λ b s cells h o. absurd (cc); routed = λ b s cells l h o. absurd (cc); aligned = λ b s cells h o. absurd (cc); out_tags = λ b s old new k o. o; settled_tags = null-settled_tags };
       framing = record { own_framed = λ fs old new cells h i k. record { state = refl; image = refl; clean = λ c o z w. w; marked = λ c o z w. w }; framed = λ fs old new cells b h i o k. absurd (cc); marked = λ b s bytes h. h };
       opening = record { closed_settled = λ cells. refl; closed_image = λ bytes. refl; opens = null-opens };

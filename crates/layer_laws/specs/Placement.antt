@@ -9,8 +9,8 @@ use Rattle.layer_rules.specs.Rules.{Rules, IsLeaf, IsBeside, HasMadeTags, HasSom
 use Rattle.layer_rules.specs.Layering.{LayerModel, state_of, kept_state, Stands, IsOutOf}
 use Rattle.layer_laws.specs.CellRooms.{rest_of_multiple}
 use Rattle.layer_laws.specs.BlockLaws.{inside-of}
-use Rattle.layer_laws.specs.Lawful.{TagsKept, OwnKept, Framed, Any, IsSameOrApart, IsMade}
-use Rattle.layer_laws.specs.Standing.{OutIsRouted, OutIsAligned, OpenAsFields, OutIsSetUp, extent_of, OutIsPlaced, ApartShareNoByte, Writes, WriteLeaves, WriteChangesOwn, IsFreeOrOwn, ChangesOwn, MemberChangesOwn, OthersStand, OthersKeepState, OthersKeepOut, OthersKeepBytes, OthersKeepClean, OthersKeepMarked}
+use Rattle.layer_laws.specs.Lawful.{IsFreeOrOwn, TagsKept, OwnKept, Framed, Any, IsSameOrApart, IsMade}
+use Rattle.layer_laws.specs.Standing.{OutIsRouted, OutIsAligned, OpenAsFields, OutIsSetUp, extent_of, OutIsPlaced, ApartShareNoByte, Writes, WriteLeaves, WriteChangesOwn, ChangesOwn, MemberChangesOwn, OthersStand, OthersKeepState, OthersKeepOut, OthersKeepBytes, OthersKeepClean, OthersKeepMarked}
 use Rattle.layer_laws.specs.StandingLaws.{some-tags, keeping, placing, framing, covers-of, room-of}
 
 -- ---- where a block lies

@@ -1,5 +1,6 @@
 -- Standing: what callers may rest on, whatever the form of a layer. Each law is the clause of a function.
-use Rattle.std.specs.Prelude.{ℕ, ◌≡◌, ◌≤◌, ◌<◌, ◌/◌, ◌%◌, ◌⊎◌, Bool, true, length, get_or, Option, Some, Result}
+use Rattle.std.specs.Prelude.{ℕ, ◌≡◌, ◌≤◌, ◌<◌, ◌/◌, ◌%◌, ◌⊎◌, Bool, true, false, List, length, get_or, Option, Some, Result}
+use Rattle.size_round.specs.Sizes.{is_power_of_two}
 use Rattle.space_core.specs.Cells.{cell_size}
 use Rattle.space_core.specs.Memory.{Memory, IsMemory}
 use Rattle.layer_rules.specs.declared.Block.{Block}
@@ -8,12 +9,17 @@ use Rattle.layer_rules.specs.Blocks.{end_of, lies_in, is_apart}
 use Rattle.layer_rules.specs.Rules.{Rules, IsLeaf, IsBeside, HasDistinctTags, HasMadeTags, HasNoCells}
 use Rattle.layer_rules.specs.State.{is_open}
 use Rattle.layer_rules.specs.Fields.{are_open}
-use Rattle.layer_rules.specs.Layering.{LayerModel, Expands, DeallocatesAll, state_of, Stands, IsSetUp, IsShut, IsOutOf, IsCleanOf, IsMarkedOf, AreApartIn, ForeignKept, IsRoutedIn, SetsUp, TearsDown, Allocates, Deallocates}
-use Rattle.layer_laws.specs.Lawful.{IsMade, ChangesInside, IsSameOrApart}
+use Rattle.layer_rules.specs.Steady.{steady}
+use Rattle.layer_rules.specs.Layering.{LayerModel, Expands, DeallocatesAll, AlignedAllocates, Reallocates, Owns, state_of, Stands, IsSetUp, IsShut, IsOutOf, IsCleanOf, IsMarkedOf, AreApartIn, ForeignKept, IsRoutedIn, SetsUp, TearsDown, Allocates, Deallocates}
+use Rattle.layer_laws.specs.Lawful.{IsMade, ChangesInside, IsSameOrApart, IsFreeOrOwn, Same}
 
 -- the bytes that a block takes up in its Space
 abbrev pub extent_of : LayerModel → Memory → Block → Block
 extent_of t m b = t.rules.extent b (state_of t m)
+
+-- the way to the layer that serves a block
+abbrev pub route_of : LayerModel → Memory → Block → List ℕ
+route_of t m b = t.rules.route b (state_of t m)
 
 -- ---- a block is served
 
@@ -40,6 +46,11 @@ AllocateKeepsExtents =
     (t t' : LayerModel) (m m' : Memory) (n : ℕ) (r : Option Block) → IsMade t.rules → Stands t m → IsSetUp t → Allocates t t' m m' n r
     → (c : Block) → extent_of t' m' c ≡ extent_of t m c
 
+abbrev pub AllocateKeepsRoutes : Type 0
+AllocateKeepsRoutes =
+    (t t' : LayerModel) (m m' : Memory) (n : ℕ) (r : Option Block) → IsMade t.rules → Stands t m → IsSetUp t → Allocates t t' m m' n r
+    → (c : Block) → IsOutOf t m c → route_of t' m' c ≡ route_of t m c
+
 -- ---- a block that is out is given back
 
 abbrev pub DeallocateStands : Type 0
@@ -56,6 +67,11 @@ abbrev pub DeallocateKeepsExtents : Type 0
 DeallocateKeepsExtents =
     (t t' : LayerModel) (m m' : Memory) (b : Block) (r : Bool) → IsMade t.rules → Stands t m → IsOutOf t m b → Deallocates t t' m m' b r
     → (c : Block) → extent_of t' m' c ≡ extent_of t m c
+
+abbrev pub DeallocateKeepsRoutes : Type 0
+DeallocateKeepsRoutes =
+    (t t' : LayerModel) (m m' : Memory) (b : Block) (r : Bool) → IsMade t.rules → Stands t m → IsOutOf t m b → Deallocates t t' m m' b r
+    → (c : Block) → IsOutOf t m c → AreApartIn t m b c → route_of t' m' c ≡ route_of t m c
 
 -- ---- a holder writes into a block that is out
 
@@ -134,10 +150,6 @@ TearDownStands = (t t' : LayerModel) (m m' : Memory) → IsMade t.rules → Stan
 
 -- ---- layers side by side
 
--- a cell that a layer may change: it is free, or has a tag of its leaves
-abbrev pub IsFreeOrOwn : Rules → (tag : ℕ) → Type 0
-IsFreeOrOwn e tag = (tag ≡ 0) ⊎ IsLeaf e tag
-
 -- what the calls of one layer change at most: free cells and its own, and the bytes of such cells
 pub record ChangesOwn (e : Rules) (m m' : Memory) : Type 0 where
   pub memory : IsMemory m'
@@ -157,12 +169,77 @@ pub record ExpandKeeps (t t' : LayerModel) (m m' : Memory) (b b' : Block) (r : B
   pub apart : (c : Block) → IsOutOf t m c → AreApartIn t m b c → AreApartIn t' m' b' c
   pub out : (c : Block) → IsOutOf t m c → (r ≡ true → AreApartIn t m b c) → IsOutOf t' m' c
   pub extents : (c : Block) → extent_of t' m' c ≡ extent_of t m c
+  pub routes : (c : Block) → IsOutOf t m c → (r ≡ true → AreApartIn t m b c) → route_of t' m' c ≡ route_of t m c
   pub changes_own : ChangesOwn t.rules m m'
 
 abbrev pub ExpandLeaves : Type 0
 ExpandLeaves =
     (t t' : LayerModel) (m m' : Memory) (b b' : Block) (delta : ℕ) (r : Bool) → IsMade t.rules → Stands t m → IsOutOf t m b → Expands t t' m m' b b' delta r
     → ExpandKeeps t t' m m' b b' r
+
+-- A refused expansion changes nothing but statistics.
+abbrev pub RefusedExpandChangesNone : Type 0
+RefusedExpandChangesNone =
+    (t t' : LayerModel) (m m' : Memory) (b b' : Block) (delta : ℕ) → IsMade t.rules → Expands t t' m m' b b' delta false
+    → (b' ≡ b) × Same (state_of t m) m.cells (state_of t' m') m'.cells
+
+-- ---- a block is served at a multiple of what is asked
+
+-- The layer stands again; the new block is as one of `allocate`, and at a multiple of a. Blocks that are out stay out, with their
+-- extents and routes.
+pub record AlignedAllocateKeeps (t t' : LayerModel) (m m' : Memory) (n a : ℕ) (r : Option Block) : Type 0 where
+  pub stands : Stands t' m'
+  pub gives : (b : Block) → r ≡ Some b → IsNewBlock t t' m m' n b × (b.place % a ≡ 0)
+  pub out : (c : Block) → IsOutOf t m c → IsOutOf t' m' c
+  pub extents : (c : Block) → extent_of t' m' c ≡ extent_of t m c
+  pub routes : (c : Block) → IsOutOf t m c → route_of t' m' c ≡ route_of t m c
+  pub changes_own : ChangesOwn t.rules m m'
+
+abbrev pub AlignedAllocateLeaves : Type 0
+AlignedAllocateLeaves =
+    (t t' : LayerModel) (m m' : Memory) (n a : ℕ) (r : Option Block) → IsMade t.rules → Stands t m → IsSetUp t → is_power_of_two a ≡ true → a ≤ 4096
+    → AlignedAllocates t t' m m' n a r → AlignedAllocateKeeps t t' m m' n a r
+
+-- ---- a block gets another length, here or elsewhere
+
+-- The layer stands again. Where there is a block then, it is out, and apart from all that the old one was apart from; where this was done,
+-- it has the new length. Blocks that are out stay out with their routes, where it was done those that are apart from the old block;
+-- extents stay.
+pub record ReallocateKeeps (t t' : LayerModel) (m m' : Memory) (b b' : Block) (n : ℕ) (r : Bool) : Type 0 where
+  pub stands : Stands t' m'
+  pub len : r ≡ true → b'.len ≡ n
+  pub gives : 1 ≤ b'.len → IsOutOf t' m' b'
+  pub apart : 1 ≤ b'.len → (c : Block) → IsOutOf t m c → AreApartIn t m b c → AreApartIn t' m' b' c
+  pub out : (c : Block) → IsOutOf t m c → (r ≡ true → AreApartIn t m b c) → IsOutOf t' m' c
+  pub extents : (c : Block) → extent_of t' m' c ≡ extent_of t m c
+  pub routes : (c : Block) → IsOutOf t m c → (r ≡ true → AreApartIn t m b c) → route_of t' m' c ≡ route_of t m c
+  pub changes_own : ChangesOwn t.rules m m'
+
+abbrev pub ReallocateLeaves : Type 0
+ReallocateLeaves =
+    (t t' : LayerModel) (m m' : Memory) (b b' : Block) (n : ℕ) (r : Bool) → IsMade t.rules → Stands t m → IsOutOf t m b → Reallocates t t' m m' b b' n r
+    → ReallocateKeeps t t' m m' b b' n r
+
+-- A refused reallocation changes nothing but statistics.
+abbrev pub RefusedReallocateChangesNone : Type 0
+RefusedReallocateChangesNone =
+    (t t' : LayerModel) (m m' : Memory) (b b' : Block) (n : ℕ) → IsMade t.rules → Reallocates t t' m m' b b' n false
+    → (b' ≡ b) × Same (state_of t m) m.cells (state_of t' m') m'.cells
+
+-- ---- a layer is asked whether it owns a block
+
+-- It stands again; who is out stays out, with extents, routes and what is round them; statistics and orders of use alone change.
+pub record OwnsKeeps (t t' : LayerModel) (m : Memory) : Type 0 where
+  pub stands : Stands t' m
+  pub steady : steady (state_of t' m) ≡ steady (state_of t m)
+  pub out : (c : Block) → IsOutOf t m c → IsOutOf t' m c
+  pub extents : (c : Block) → extent_of t' m c ≡ extent_of t m c
+  pub routes : (c : Block) → IsOutOf t m c → route_of t' m c ≡ route_of t m c
+  pub clean : (c : Block) → IsCleanOf t m c → IsCleanOf t' m c
+  pub marked : (c : Block) → IsMarkedOf t m c → IsMarkedOf t' m c
+
+abbrev pub OwnsLeaves : Type 0
+OwnsLeaves = (t t' : LayerModel) (m : Memory) (b : Block) (r : Bool) → IsMade t.rules → Stands t m → Owns t t' b r → OwnsKeeps t t' m
 
 -- ---- all blocks are given back
 

@@ -15,8 +15,9 @@ use Rattle.layer_laws.specs.Tables.{tag-in_range}
 use Rattle.layer_rules.specs.Rules.{Rules, IsLeaf, IsSettled, IsSound, HasDistinctTags, HasMadeTags, HasSomeTags, without_leaves, longer_if}
 use Rattle.layer_rules.specs.Testing.{has_no_cells}
 use Rattle.layer_rules.specs.Layering.{LayerModel, state_of, Stands, IsSetUp, IsShut, IsOutOf, AreApartIn, Frames, SetsUp, TearsDown, OpensAs, Allocates, Deallocates, Expands, DeallocatesAll, block_in, allocated, deallocated, expanded, all_deallocated}
-use Rattle.layer_laws.specs.Lawful.{IsGood, IsFreed, IsGrown, IsEmptied, Covers, Covering, OnlyOwnCells, ReadingLaws, KeepingLaws, PlacingLaws, FramingLaws, OpeningLaws, IsLawful, IsMade}
-use Rattle.layer_laws.specs.Standing.{ExpandLeaves, DeallocateAllLeaves, ShutHasNoCells, ShutStands, extent_of, IsNewBlock, IsFreeOrOwn, ChangesOwn}
+use Rattle.layer_laws.specs.Lawful.{IsFreeOrOwn, OnlyOwnChanged, IsGood, IsFreed, IsGrown, IsEmptied, Covers, Covering, OnlyOwnCells, ReadingLaws, KeepingLaws, PlacingLaws, FramingLaws, OpeningLaws, IsLawful, IsMade}
+use Rattle.layer_laws.specs.Standing.{ExpandLeaves, DeallocateAllLeaves, ShutHasNoCells, ShutStands, extent_of, IsNewBlock, ChangesOwn, route_of}
+use Rattle.layer_laws.specs.OwnChanges.{changed-taken, changed-freed, changed-then}
 use Rattle.layer_laws.specs.Tests.{no-cell, no-cells-from, none-at, none-all}
 
 -- ---- a layer that stands is lawful
@@ -82,50 +83,84 @@ sound-again t t' m m' h f s cells es ec g =
       image = f.image;
     }
 
-out-again : (t t' : LayerModel) (m m' : Memory) (s : State) (cells : Cells) (b : Block) → Frames t t' m m' → state_of t' m' ≡ s → m'.cells ≡ cells → t.rules.is_out b s cells ≡ true → IsOutOf t' m' b
+pub out-again : (t t' : LayerModel) (m m' : Memory) (s : State) (cells : Cells) (b : Block) → Frames t t' m m' → state_of t' m' ≡ s → m'.cells ≡ cells → t.rules.is_out b s cells ≡ true → IsOutOf t' m' b
 out-again t t' m m' s cells b f es ec o = subst (λ e. e.is_out b (state_of t' m') m'.cells ≡ true) (sym f.rules) (rw (es, ec) o)
 
-extent-again : (t t' : LayerModel) (m m' : Memory) (s : State) (b : Block) → Frames t t' m m' → state_of t' m' ≡ s → t.rules.extent b s ≡ extent_of t m b → extent_of t' m' b ≡ extent_of t m b
+pub extent-again : (t t' : LayerModel) (m m' : Memory) (s : State) (b : Block) → Frames t t' m m' → state_of t' m' ≡ s → t.rules.extent b s ≡ extent_of t m b → extent_of t' m' b ≡ extent_of t m b
 extent-again t t' m m' s b f es q = ap (λ e. e.extent b (state_of t' m')) f.rules ∙ (ap (λ s. t.rules.extent b s) es ∙ q)
+
+-- what a call changes, by what it does to the table
+pub changes-from : (t t' : LayerModel) (m m' : Memory) → Frames t t' m m' → OnlyOwnChanged t.rules m.cells m'.cells → ChangesOwn t.rules m m'
+changes-from t t' m m' f k = record { memory = f.memory; size = f.size; leaves = f.leaves; cells = k; foreign = f.foreign }
+
+pub route-again : (t t' : LayerModel) (m m' : Memory) (s : State) (b : Block) → Frames t t' m m' → state_of t' m' ≡ s → t.rules.route b s ≡ route_of t m b → route_of t' m' b ≡ route_of t m b
+route-again t t' m m' s b f es q = ap (λ e. e.route b (state_of t' m')) f.rules ∙ (ap (λ s. t.rules.route b s) es ∙ q)
 
 -- ---- a block is served
 
 pub good-of : (t : LayerModel) (m : Memory) (n : ℕ) → IsMade t.rules → Stands t m → IsSetUp t → IsGood t.rules (state_of t m) m.cells n (allocated t m n)
 good-of t m n l h u = (keeping t m l h).good n (state_of t m) m.cells (l.regular.reading.opens_as_fields t.fields m.bytes ∙ u) h.sound.settled
 
-pub allocated-stands : (t t' : LayerModel) (m m' : Memory) (n : ℕ) (r : Option Block) → IsMade t.rules → Stands t m → IsSetUp t → Allocates t t' m m' n r → Stands t' m'
-allocated-stands t t' m m' n r l h u a = sound-again t t' m m' h a.frame (allocated t m n).state (allocated t m n).cells a.state a.cells (good-of t m n l h u).settled
-
 pub answered : (b : Block) (o : Option Placed) → Some b ≡ block_in o → (p : Placed) × (o ≡ Some p) × (p.block ≡ b)
 answered b None e = absurd (cc)
 answered b (Some p) e = let q : p.block ≡ b = cc in (p, refl, q)
 
-pub allocated-gives : (t t' : LayerModel) (m m' : Memory) (n : ℕ) (b : Block) → IsMade t.rules → Stands t m → IsSetUp t → Allocates t t' m m' n (Some b) → IsNewBlock t t' m m' n b
-allocated-gives t t' m m' n b l h u a =
-    let g = good-of t m n l h u in
-    let x = answered b (allocated t m n).answer a.answer in
+-- what a request does, by a rule that gives what is good and takes for its own leaves alone
+pub record Serves (rule : After (Option Placed)) (t t' : LayerModel) (m m' : Memory) (n : ℕ) (r : Option Block) : Type 0 where
+  pub frame : Frames t t' m m'
+  pub answer : r ≡ block_in rule.answer
+  pub state : state_of t' m' ≡ rule.state
+  pub cells : m'.cells ≡ rule.cells
+  pub good : IsGood t.rules (state_of t m) m.cells n rule
+  pub taken : OnlyOwnCells t.rules m.cells rule.cells
+
+pub served-stands : (rule : After (Option Placed)) (t t' : LayerModel) (m m' : Memory) (n : ℕ) (r : Option Block) → Stands t m → Serves rule t t' m m' n r → Stands t' m'
+served-stands rule t t' m m' n r h a = sound-again t t' m m' h a.frame rule.state rule.cells a.state a.cells a.good.settled
+
+pub served-gives : (rule : After (Option Placed)) (t t' : LayerModel) (m m' : Memory) (n : ℕ) (b : Block) → Serves rule t t' m m' n (Some b) → IsNewBlock t t' m m' n b
+served-gives rule t t' m m' n b a =
+    let g = a.good in
+    let x = answered b rule.answer a.answer in
     record {
       len = ap (λ (b : Block). b.len) (sym x.2) ∙ g.len x.0 x.1;
-      out = out-again t t' m m' (allocated t m n).state (allocated t m n).cells b a.frame a.state a.cells (subst (λ k. t.rules.is_out k (allocated t m n).state (allocated t m n).cells ≡ true) x.2 (g.out x.0 x.1));
+      out = out-again t t' m m' rule.state rule.cells b a.frame a.state a.cells (subst (λ k. t.rules.is_out k rule.state rule.cells ≡ true) x.2 (g.out x.0 x.1));
       fresh = λ c o. record { either = subst (λ k. is_apart (t.rules.extent k (state_of t m)) (t.rules.extent c (state_of t m)) ≡ true) x.2 (g.fresh x.0 x.1 c o).either };
     }
 
+pub served-keeps_out : (rule : After (Option Placed)) (t t' : LayerModel) (m m' : Memory) (n : ℕ) (r : Option Block) → Serves rule t t' m m' n r → (c : Block) → IsOutOf t m c → IsOutOf t' m' c
+served-keeps_out rule t t' m m' n r a c o = out-again t t' m m' rule.state rule.cells c a.frame a.state a.cells (a.good.stays c o)
+
+pub served-keeps_extents : (rule : After (Option Placed)) (t t' : LayerModel) (m m' : Memory) (n : ℕ) (r : Option Block) → Serves rule t t' m m' n r → (c : Block) → extent_of t' m' c ≡ extent_of t m c
+served-keeps_extents rule t t' m m' n r a c = extent-again t t' m m' rule.state c a.frame a.state (a.good.extents c)
+
+pub served-keeps_routes : (rule : After (Option Placed)) (t t' : LayerModel) (m m' : Memory) (n : ℕ) (r : Option Block) → Serves rule t t' m m' n r → (c : Block) → IsOutOf t m c → route_of t' m' c ≡ route_of t m c
+served-keeps_routes rule t t' m m' n r a c o = route-again t t' m m' rule.state c a.frame a.state (a.good.routes c o)
+
+pub served-changes_own : (rule : After (Option Placed)) (t t' : LayerModel) (m m' : Memory) (n : ℕ) (r : Option Block) → Serves rule t t' m m' n r → ChangesOwn t.rules m m'
+served-changes_own rule t t' m m' n r a =
+    changes-from t t' m m' a.frame (subst (λ (new : Cells). OnlyOwnChanged t.rules m.cells new) (sym a.cells) (changed-taken t.rules m.cells rule.cells a.taken))
+
+allocated-serves : (t t' : LayerModel) (m m' : Memory) (n : ℕ) (r : Option Block) → IsMade t.rules → Stands t m → IsSetUp t → Allocates t t' m m' n r → Serves (allocated t m n) t t' m m' n r
+allocated-serves t t' m m' n r l h u a =
+    record { frame = a.frame; answer = a.answer; state = a.state; cells = a.cells; good = good-of t m n l h u; taken = l.regular.taking.allocate n (state_of t m) m.cells }
+
+pub allocated-stands : (t t' : LayerModel) (m m' : Memory) (n : ℕ) (r : Option Block) → IsMade t.rules → Stands t m → IsSetUp t → Allocates t t' m m' n r → Stands t' m'
+allocated-stands t t' m m' n r l h u a = served-stands (allocated t m n) t t' m m' n r h (allocated-serves t t' m m' n r l h u a)
+
+pub allocated-gives : (t t' : LayerModel) (m m' : Memory) (n : ℕ) (b : Block) → IsMade t.rules → Stands t m → IsSetUp t → Allocates t t' m m' n (Some b) → IsNewBlock t t' m m' n b
+allocated-gives t t' m m' n b l h u a = served-gives (allocated t m n) t t' m m' n b (allocated-serves t t' m m' n (Some b) l h u a)
+
 pub allocated-keeps_out : (t t' : LayerModel) (m m' : Memory) (n : ℕ) (r : Option Block) → IsMade t.rules → Stands t m → IsSetUp t → Allocates t t' m m' n r → (c : Block) → IsOutOf t m c → IsOutOf t' m' c
-allocated-keeps_out t t' m m' n r l h u a c o = out-again t t' m m' (allocated t m n).state (allocated t m n).cells c a.frame a.state a.cells ((good-of t m n l h u).stays c o)
+allocated-keeps_out t t' m m' n r l h u a = served-keeps_out (allocated t m n) t t' m m' n r (allocated-serves t t' m m' n r l h u a)
 
 pub allocated-keeps_extents : (t t' : LayerModel) (m m' : Memory) (n : ℕ) (r : Option Block) → IsMade t.rules → Stands t m → IsSetUp t → Allocates t t' m m' n r → (c : Block) → extent_of t' m' c ≡ extent_of t m c
-allocated-keeps_extents t t' m m' n r l h u a c = extent-again t t' m m' (allocated t m n).state c a.frame a.state ((good-of t m n l h u).extents c)
+allocated-keeps_extents t t' m m' n r l h u a = served-keeps_extents (allocated t m n) t t' m m' n r (allocated-serves t t' m m' n r l h u a)
+
+pub allocated-keeps_routes : (t t' : LayerModel) (m m' : Memory) (n : ℕ) (r : Option Block) → IsMade t.rules → Stands t m → IsSetUp t → Allocates t t' m m' n r → (c : Block) → IsOutOf t m c → route_of t' m' c ≡ route_of t m c
+allocated-keeps_routes t t' m m' n r l h u a = served-keeps_routes (allocated t m n) t t' m m' n r (allocated-serves t t' m m' n r l h u a)
 
 pub allocated-changes_own : (t t' : LayerModel) (m m' : Memory) (n : ℕ) (r : Option Block) → IsMade t.rules → Stands t m → IsSetUp t → Allocates t t' m m' n r → ChangesOwn t.rules m m'
-allocated-changes_own t t' m m' n r l h u a =
-    record {
-      memory = a.frame.memory;
-      size = a.frame.size;
-      leaves = a.frame.leaves;
-      cells = subst (λ (new : Cells). (c : ℕ) → (get_or new.tags c 0 ≡ get_or m.cells.tags c 0) ⊎ (IsFreeOrOwn t.rules (get_or m.cells.tags c 0) × IsFreeOrOwn t.rules (get_or new.tags c 0))) (sym a.cells)
-          (λ c. elim ((l.regular.taking.allocate n (state_of t m) m.cells).each c) [ inl z ↦ inl z | inr z ↦ inr (inl z.0, inr z.1) ]);
-      foreign = a.frame.foreign;
-    }
+allocated-changes_own t t' m m' n r l h u a = served-changes_own (allocated t m n) t t' m m' n r (allocated-serves t t' m m' n r l h u a)
 
 -- ---- a block is given back
 
@@ -142,22 +177,12 @@ deallocated-keeps_out t t' m m' b r l h o a c p z =
 pub deallocated-keeps_extents : (t t' : LayerModel) (m m' : Memory) (b : Block) (r : Bool) → IsMade t.rules → Stands t m → IsOutOf t m b → Deallocates t t' m m' b r → (c : Block) → extent_of t' m' c ≡ extent_of t m c
 deallocated-keeps_extents t t' m m' b r l h o a c = extent-again t t' m m' (deallocated t m b).state c a.frame a.state ((freed-of t m b l h o).extents c)
 
+pub deallocated-keeps_routes : (t t' : LayerModel) (m m' : Memory) (b : Block) (r : Bool) → IsMade t.rules → Stands t m → IsOutOf t m b → Deallocates t t' m m' b r → (c : Block) → IsOutOf t m c → AreApartIn t m b c → route_of t' m' c ≡ route_of t m c
+deallocated-keeps_routes t t' m m' b r l h o a c p z = route-again t t' m m' (deallocated t m b).state c a.frame a.state ((freed-of t m b l h o).routes c p (record { either = z.either }))
+
 pub deallocated-changes_own : (t t' : LayerModel) (m m' : Memory) (b : Block) (r : Bool) → IsMade t.rules → Stands t m → IsOutOf t m b → Deallocates t t' m m' b r → ChangesOwn t.rules m m'
 deallocated-changes_own t t' m m' b r l h o a =
-    let g = freed-of t m b l h o in
-    record {
-      memory = a.frame.memory;
-      size = a.frame.size;
-      leaves = a.frame.leaves;
-      cells = subst (λ (new : Cells). (c : ℕ) → (get_or new.tags c 0 ≡ get_or m.cells.tags c 0) ⊎ (IsFreeOrOwn t.rules (get_or m.cells.tags c 0) × IsFreeOrOwn t.rules (get_or new.tags c 0))) (sym a.cells)
-          (λ c. elim (g.table c) [ inl z ↦ inl z | inr z ↦ inr (inr z.1, inl z.0) ]);
-      foreign = a.frame.foreign;
-    }
-
--- what a call changes, by what it does to the table
-changes-from : (e : Rules) (t t' : LayerModel) (m m' : Memory) → Frames t t' m m' → ((c : ℕ) → (get_or m'.cells.tags c 0 ≡ get_or m.cells.tags c 0)
-    ⊎ (IsFreeOrOwn t.rules (get_or m.cells.tags c 0) × IsFreeOrOwn t.rules (get_or m'.cells.tags c 0))) → ChangesOwn t.rules m m'
-changes-from e t t' m m' f k = record { memory = f.memory; size = f.size; leaves = f.leaves; cells = k; foreign = f.foreign }
+    changes-from t t' m m' a.frame (subst (λ (new : Cells). OnlyOwnChanged t.rules m.cells new) (sym a.cells) (changed-freed t.rules m.cells (deallocated t m b).cells (freed-of t m b l h o).table))
 
 -- ---- a block grows
 
@@ -189,10 +214,13 @@ pub expanded-keeps_out : (t t' : LayerModel) (m m' : Memory) (b b' : Block) (del
 expanded-keeps_out t t' m m' b b' delta r l h o a c p z =
     out-again t t' m m' (expanded t m b delta).state (expanded t m b delta).cells c a.frame a.state a.cells ((expanded-of t m b delta l h o).stays c p (λ q. let y = z (a.answer ∙ q) in record { either = y.either }))
 
+pub expanded-keeps_routes : (t t' : LayerModel) (m m' : Memory) (b b' : Block) (delta : ℕ) (r : Bool) → IsMade t.rules → Stands t m → IsOutOf t m b → Expands t t' m m' b b' delta r → (c : Block) → IsOutOf t m c → (r ≡ true → AreApartIn t m b c) → route_of t' m' c ≡ route_of t m c
+expanded-keeps_routes t t' m m' b b' delta r l h o a c p z = route-again t t' m m' (expanded t m b delta).state c a.frame a.state ((expanded-of t m b delta l h o).routes c p (λ q. let y = z (a.answer ∙ q) in record { either = y.either }))
+
 pub expanded-changes_own : (t t' : LayerModel) (m m' : Memory) (b b' : Block) (delta : ℕ) (r : Bool) → IsMade t.rules → Stands t m → IsOutOf t m b → Expands t t' m m' b b' delta r → ChangesOwn t.rules m m'
 expanded-changes_own t t' m m' b b' delta r l h o a =
-    changes-from t.rules t t' m m' a.frame (subst (λ (new : Cells). (c : ℕ) → (get_or new.tags c 0 ≡ get_or m.cells.tags c 0) ⊎ (IsFreeOrOwn t.rules (get_or m.cells.tags c 0) × IsFreeOrOwn t.rules (get_or new.tags c 0))) (sym a.cells)
-    (λ c. elim ((expanded-of t m b delta l h o).table.each c) [ inl z ↦ inl z | inr z ↦ inr (inl z.0, inr z.1) ]))
+    changes-from t t' m m' a.frame (subst (λ (new : Cells). OnlyOwnChanged t.rules m.cells new) (sym a.cells)
+    (changed-taken t.rules m.cells (expanded t m b delta).cells (expanded-of t m b delta l h o).table))
 
 -- ---- all blocks are taken back
 
@@ -207,17 +235,10 @@ all_deallocated-leaves_none t t' m m' l h u a b o = (emptied-of t m l h u).none 
 
 pub all_deallocated-changes_own : (t t' : LayerModel) (m m' : Memory) → IsMade t.rules → Stands t m → IsSetUp t → DeallocatesAll t t' m m' → ChangesOwn t.rules m m'
 all_deallocated-changes_own t t' m m' l h u a =
-    changes-from t.rules t t' m m' a.frame (subst (λ (new : Cells). (c : ℕ) → (get_or new.tags c 0 ≡ get_or m.cells.tags c 0) ⊎ (IsFreeOrOwn t.rules (get_or m.cells.tags c 0) × IsFreeOrOwn t.rules (get_or new.tags c 0))) (sym a.cells)
-    (λ c. elim ((emptied-of t m l h u).table c) [ inl z ↦ inl z | inr z ↦ inr (inr z.1, inl z.0) ]))
+    changes-from t t' m m' a.frame (subst (λ (new : Cells). OnlyOwnChanged t.rules m.cells new) (sym a.cells)
+    (changed-freed t.rules m.cells (all_deallocated t m).cells (emptied-of t m l h u).table))
 
 -- ---- changes in turn
-
--- a cell that changed twice could be changed at first
-cell-in_turn : (e : Rules) (old mid new : ℕ) → (mid ≡ old) ⊎ (IsFreeOrOwn e old × IsFreeOrOwn e mid) → (new ≡ mid) ⊎ (IsFreeOrOwn e mid × IsFreeOrOwn e new) → (new ≡ old) ⊎ (IsFreeOrOwn e old × IsFreeOrOwn e new)
-cell-in_turn e old mid new (inl x) (inl y) = inl (y ∙ x)
-cell-in_turn e old mid new (inl x) (inr y) = inr (subst (IsFreeOrOwn e) x y.0, y.1)
-cell-in_turn e old mid new (inr x) (inl y) = inr (x.0, subst (IsFreeOrOwn e) (sym y) x.1)
-cell-in_turn e old mid new (inr x) (inr y) = inr (x.0, y.1)
 
 -- another layer's cell keeps its tag
 foreign-tag : (e : Rules) (old mid : ℕ) → (old ≡ 0 → ⊥) → (IsLeaf e old → ⊥) → (mid ≡ old) ⊎ (IsFreeOrOwn e old × IsFreeOrOwn e mid) → mid ≡ old
@@ -230,7 +251,7 @@ changes-in_turn e m m' m'' k l =
       memory = l.memory;
       size = l.size ∙ k.size;
       leaves = l.leaves ∙ k.leaves;
-      cells = λ c. cell-in_turn e (get_or m.cells.tags c 0) (get_or m'.cells.tags c 0) (get_or m''.cells.tags c 0) (k.cells c) (l.cells c);
+      cells = changed-then e m.cells m'.cells m''.cells k.cells l.cells;
       foreign = record {
         at = λ i a z.
             let q = foreign-tag e (get_or m.cells.tags (i / cell_size) 0) (get_or m'.cells.tags (i / cell_size) 0) a z (k.cells (i / cell_size)) in
@@ -274,7 +295,7 @@ set_up-cells t t' m m' (Err node) (Ok done) g z c = absurd z
 
 pub set_up-changes_own : (t t' : LayerModel) (m m' : Memory) (need : ℕ) (r : Result (Unit {0}) Refused) → IsMade t.rules → Stands t m → IsShut t → SetsUp t t' m m' need r → ChangesOwn t.rules m m'
 set_up-changes_own t t' m m' need r l h u s =
-    changes-from t.rules t t' m m' s.frame (set_up-cells t t' m m' (t.rules.set_up need m.cells) r (λ o q. l.regular.taking.set_up need m.cells o q) s.answer)
+    changes-from t t' m m' s.frame (set_up-cells t t' m m' (t.rules.set_up need m.cells) r (λ o q. l.regular.taking.set_up need m.cells o q) s.answer)
 
 -- ---- tearing down
 
@@ -292,7 +313,7 @@ torn-stands t t' m m' l h k =
 
 pub torn-changes_own : (t t' : LayerModel) (m m' : Memory) → Stands t m → TearsDown t t' m m' → ChangesOwn t.rules m m'
 torn-changes_own t t' m m' h k =
-    changes-from t.rules t t' m m' k.frame (λ c. elim (torn-cells t t' m m' k c) [ inl z ↦ inl z.0 | inr z ↦ inr (inr z.1, inl z.0) ])
+    changes-from t t' m m' k.frame (λ c. elim (torn-cells t t' m m' k c) [ inl z ↦ inl z.0 | inr z ↦ inr (inr z.1, inl z.0) ])
 
 -- ---- where a block lies
 
@@ -346,6 +367,7 @@ expanded-keeps t t' m m' b b' delta r l h o a =
       apart = expanded-keeps_apart t t' m m' b b' delta r l h o a;
       out = expanded-keeps_out t t' m m' b b' delta r l h o a;
       extents = expanded-keeps_extents t t' m m' b b' delta r l h o a;
+      routes = expanded-keeps_routes t t' m m' b b' delta r l h o a;
       changes_own = expanded-changes_own t t' m m' b b' delta r l h o a;
     }
 

@@ -12,23 +12,39 @@ use Rattle.layer_rules.specs.After.{After, after, Placed, Serve, refuse, Opened,
 use Rattle.layer_rules.specs.Allocating.{asked_for, served_unless}
 use Rattle.layer_rules.specs.Setting.{then_open, then_members, within_limit, chunk_given, open_parent, open_chunk, open_group}
 use Rattle.layer_rules.specs.Rules.{Rules, IsSettled, longer_if}
-use Rattle.layer_laws.specs.Lawful.{IsGood, IsFreed, IsGrown, ChangesInside}
+use Rattle.layer_laws.specs.Lawful.{IsGood, IsAlignedGood, KeepsTold, IsFreed, IsGrown, ChangesInside}
 use Rattle.layer_laws.specs.Tests.{takes-none}
 
 pub refuse-good : (e : Rules) (n : ℕ) (s : State) (cells : Cells) → is_open s ≡ true → IsSettled e s cells → IsGood e s cells n (refuse s cells)
 refuse-good e n s cells o h =
-    record { is_set = o; settled = h; extents = λ b. refl; stays = λ b x. x; len = λ p q. absurd (cc); out = λ p q. absurd (cc); fresh = λ p q. absurd (cc) }
+    record { is_set = o; settled = h; extents = λ b. refl; routes = λ b x. refl; stays = λ b x. x; len = λ p q. absurd (cc); out = λ p q. absurd (cc); fresh = λ p q. absurd (cc) }
 
-unless-good : (e : Rules) (n : ℕ) (serve : Serve) (s : State) (cells : Cells) (a b : Bool) → nat_eq n 0 ≡ a → nat_lt limit n ≡ b → is_open s ≡ true → IsSettled e s cells → (1 ≤ n → n ≤ limit → IsGood e s cells n (serve s cells)) → IsGood e s cells n (served_unless a b serve s cells)
-unless-good e n serve s cells true b x y o h g = refuse-good e n s cells o h
-unless-good e n serve s cells false true x y o h g = refuse-good e n s cells o h
-unless-good e n serve s cells false false x y o h g = g (grind (arith, nat_tests)) (grind (arith, nat_tests))
+-- what holds of a refusal and of what is served holds of an answer
+unless-by : (P : After (Option Placed) → Type 0) (n : ℕ) (serve : Serve) (s : State) (cells : Cells) (a b : Bool) → nat_eq n 0 ≡ a → nat_lt limit n ≡ b → P (refuse s cells) → (1 ≤ n → n ≤ limit → P (serve s cells)) → P (served_unless a b serve s cells)
+unless-by P n serve s cells true b x y h g = h
+unless-by P n serve s cells false true x y h g = h
+unless-by P n serve s cells false false x y h g = g (grind (arith, nat_tests)) (grind (arith, nat_tests))
+
+asked-by : (P : After (Option Placed) → Type 0) (n : ℕ) (serve : Serve) (s : State) (cells : Cells) → P (refuse s cells) → (1 ≤ n → n ≤ limit → P (serve s cells)) → P (asked_for n serve s cells)
+asked-by P n serve s cells h g = unless-by P n serve s cells _ _ refl refl h g
 
 pub asked-good : (e : Rules) (n : ℕ) (serve : Serve) (s : State) (cells : Cells) → is_open s ≡ true → IsSettled e s cells → (1 ≤ n → n ≤ limit → IsGood e s cells n (serve s cells)) → IsGood e s cells n (asked_for n serve s cells)
-asked-good e n serve s cells o h g = unless-good e n serve s cells _ _ refl refl o h g
+asked-good e n serve s cells o h g = asked-by (IsGood e s cells n) n serve s cells (refuse-good e n s cells o h) g
+
+pub refuse-aligned : (e : Rules) (n a : ℕ) (s : State) (cells : Cells) → is_open s ≡ true → IsSettled e s cells → IsAlignedGood e s cells n a (refuse s cells)
+refuse-aligned e n a s cells o h = record { good = refuse-good e n s cells o h; aligned = λ p q. absurd (cc) }
+
+pub asked-aligned : (e : Rules) (n a : ℕ) (serve : Serve) (s : State) (cells : Cells) → is_open s ≡ true → IsSettled e s cells → (1 ≤ n → n ≤ limit → IsAlignedGood e s cells n a (serve s cells)) → IsAlignedGood e s cells n a (asked_for n serve s cells)
+asked-aligned e n a serve s cells o h g = asked-by (IsAlignedGood e s cells n a) n serve s cells (refuse-aligned e n a s cells o h) g
+
+-- ---- who owns a block
+
+-- nothing changes
+pub same-told : (e : Rules) (s : State) (cells : Cells) → IsSettled e s cells → KeepsTold e s s cells
+same-told e s cells h = record { settled = h; extents = λ c. refl; routes = λ c o. refl; out = λ c. refl; clean = λ c bytes. refl; marked = λ c bytes. refl }
 
 pub unchanged : (e : Rules) (s : State) (cells : Cells) (b : Block) (x : Bool) → is_open s ≡ true → IsSettled e s cells → IsFreed e s cells b (after x s cells)
-unchanged e s cells b x o h = record { is_set = o; settled = h; extents = λ c. refl; stays = λ c p a. p; table = λ c. inl refl }
+unchanged e s cells b x o h = record { is_set = o; settled = h; extents = λ c. refl; routes = λ c p a. refl; stays = λ c p a. p; table = λ c. inl refl }
 
 pub inside-wider : (b c : Block) (old new : List ℕ) → c.place ≤ b.place → end_of b ≤ end_of c → ChangesInside b old new → ChangesInside c old new
 inside-wider b c old new l m k = record { length_same = k.length_same; below = λ i x. k.below i (omega arith); above = λ i x. k.above i (omega arith) }
@@ -37,13 +53,13 @@ inside-wider b c old new l m k = record { length_same = k.length_same; below = �
 
 -- it is refused
 pub kept-short : (e : Rules) (s : State) (cells : Cells) (b : Block) (delta : ℕ) → is_open s ≡ true → IsSettled e s cells → e.is_out b s cells ≡ true → IsGrown e s cells b delta (after false s cells)
-kept-short e s cells b delta o h x = record { is_set = o; settled = h; extents = λ c. refl; stays = λ c p a. p; out = x; fresh = λ c p a. a; table = takes-none e cells }
+kept-short e s cells b delta o h x = record { is_set = o; settled = h; extents = λ c. refl; routes = λ c p a. refl; stays = λ c p a. p; out = x; fresh = λ c p a. a; table = takes-none e cells }
 
 -- the block is seen as before from what serves it
 pub kept-long : (e : Rules) (s : State) (cells : Cells) (b : Block) (delta : ℕ) → is_open s ≡ true → IsSettled e s cells → e.is_out (with_len b (b.len + delta)) s cells ≡ true
     → e.extent (with_len b (b.len + delta)) s ≡ e.extent b s → IsGrown e s cells b delta (after true s cells)
 kept-long e s cells b delta o h x q =
-    record { is_set = o; settled = h; extents = λ c. refl; stays = λ c p a. p; out = x; fresh = λ c p a. record { either = subst (λ k. is_apart k (e.extent c s) ≡ true) (sym q) a.either }; table = takes-none e cells }
+    record { is_set = o; settled = h; extents = λ c. refl; routes = λ c p a. refl; stays = λ c p a. p; out = x; fresh = λ c p a. record { either = subst (λ k. is_apart k (e.extent c s) ≡ true) (sym q) a.either }; table = takes-none e cells }
 
 pub by-nothing : (e : Rules) (s : State) (cells : Cells) (b : Block) (delta : ℕ) → nat_eq delta 0 ≡ true → is_open s ≡ true → IsSettled e s cells → e.is_out b s cells ≡ true → IsGrown e s cells b delta (after true s cells)
 by-nothing e s cells b delta z o h x =

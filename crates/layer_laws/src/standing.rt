@@ -1,6 +1,6 @@
 //! What callers may rest on: a layer stands after each call, and blocks that are out keep apart.
 
-ghost use Rattle.layer_laws.specs.Standing.{AllocateStands, AllocateGives, AllocateKeepsOut, AllocateKeepsExtents, DeallocateStands, DeallocateKeepsOut, DeallocateKeepsExtents, WriteLeaves, ExpandLeaves, DeallocateAllLeaves, OutIsPlaced, OutIsInSpace, ApartShareNoByte, OutIsRouted, OutIsAligned, OpenAsFields, OutIsSetUp, ShutHasNoCells, ShutStands, SetUpStands, TearDownStands, SetUpChangesOwn, TearDownChangesOwn, AllocateChangesOwn, DeallocateChangesOwn, WriteChangesOwn, ChangesInTurn, MemberChangesOwn, OthersStand, OthersKeepState, OthersKeepOut, OthersKeepBytes, OthersKeepClean, OthersKeepMarked};
+ghost use Rattle.layer_laws.specs.Standing.{AllocateStands, AllocateGives, AllocateKeepsOut, AllocateKeepsExtents, AllocateKeepsRoutes, DeallocateStands, DeallocateKeepsOut, DeallocateKeepsExtents, DeallocateKeepsRoutes, WriteLeaves, ExpandLeaves, ReallocateLeaves, AlignedAllocateLeaves, RefusedExpandChangesNone, RefusedReallocateChangesNone, OwnsLeaves, DeallocateAllLeaves, OutIsPlaced, OutIsInSpace, ApartShareNoByte, OutIsRouted, OutIsAligned, OpenAsFields, OutIsSetUp, ShutHasNoCells, ShutStands, SetUpStands, TearDownStands, SetUpChangesOwn, TearDownChangesOwn, AllocateChangesOwn, DeallocateChangesOwn, WriteChangesOwn, ChangesInTurn, MemberChangesOwn, OthersStand, OthersKeepState, OthersKeepOut, OthersKeepBytes, OthersKeepClean, OthersKeepMarked};
 
 /// A layer that is asked for a block stands again; the new block is apart from all that were out, and these are out still.
 pub fn allocate_keeps()
@@ -8,6 +8,7 @@ pub fn allocate_keeps()
     ensures gives { AllocateGives }
     ensures out { AllocateKeepsOut }
     ensures extents { AllocateKeepsExtents }
+    ensures routes { AllocateKeepsRoutes }
 {}
 
 /// A layer that gets a block back stands again, and each block that is apart from it is out still.
@@ -15,12 +16,36 @@ pub fn deallocate_keeps()
     ensures stands { DeallocateStands }
     ensures out { DeallocateKeepsOut }
     ensures extents { DeallocateKeepsExtents }
+    ensures routes { DeallocateKeepsRoutes }
 {}
 
 /// A layer whose block was to grow stands again; the block is out with the length that it has then, and apart from all that it was
 /// apart from.
 pub fn expand_keeps()
     ensures { ExpandLeaves }
+{}
+
+/// A layer whose block was to get another length stands again. Where there is a block then, it is out, has that length where this
+/// was done, and is apart from all that the old one was apart from.
+pub fn reallocate_keeps()
+    ensures { ReallocateLeaves }
+{}
+
+/// A layer that is asked for a block at an alignment, a power of two up to 4096, stands again; the new block is as one of `allocate`,
+/// and its place is a multiple of the alignment.
+pub fn aligned_allocate_keeps()
+    ensures { AlignedAllocateLeaves }
+{}
+
+/// An expansion or a reallocation that is refused changes nothing but statistics.
+pub fn refused_changes_none()
+    ensures expand { RefusedExpandChangesNone }
+    ensures reallocate { RefusedReallocateChangesNone }
+{}
+
+/// A layer that is asked whether it owns a block stands again; what is told of blocks stays, and what is round them.
+pub fn owns_keeps()
+    ensures { OwnsLeaves }
 {}
 
 /// A layer that gets all blocks back stands again, and none is out.

@@ -1,14 +1,15 @@
 -- Layering: what contracts see of a layer in a Space, the condition of a layer's calls, and what each call does.
-use Rattle.std.specs.Prelude.{ℕ, ◌≡◌, ◌≢◌, ◌+◌, ◌/◌, ◌≤◌, ◌<◌, Bool, true, false, List, [], length, get_or, Option, Some, option_map, Result, Ok, Err, is_ok, slice_get}
+use Rattle.std.specs.Prelude.{ℕ, ◌≡◌, ◌≢◌, ◌+◌, ◌/◌, ◌≤◌, ◌<◌, Bool, true, false, List, [], length, get_or, min, Option, Some, option_map, Result, Ok, Err, is_ok, slice_get}
 use Rattle.space_core.specs.Cells.{cell_size}
 use Rattle.space_core.specs.Memory.{Memory, IsMemory}
 use Rattle.layer_rules.specs.declared.Block.{Block}
 use Rattle.layer_rules.specs.declared.Fact.{Fact}
 use Rattle.layer_rules.specs.declared.Refused.{Refused}
-use Rattle.layer_rules.specs.Blocks.{end_of}
+use Rattle.layer_rules.specs.Blocks.{no_block, end_of}
 use Rattle.layer_rules.specs.State.{State}
 use Rattle.layer_rules.specs.Fields.{Fields, are_open}
-use Rattle.layer_rules.specs.After.{After, Placed, Opened, Opening}
+use Rattle.layer_rules.specs.After.{After, Placed, Opened, Opening, Reallocated, moved_to, emptied, unmoved}
+use Rattle.layer_rules.specs.Reallocating.{move_to, asked_to_reallocate, general_reallocate}
 use Rattle.layer_rules.specs.Rules.{Rules, IsLeaf, AreApart, IsSound, without_leaves, longer_if}
 
 -- The model of a layer, which is what contracts see of it: its rules, which its constructor fixes and no call changes, and the numbers that it keeps
@@ -119,6 +120,20 @@ pub record Allocates (t t' : LayerModel) (m m' : Memory) (n : ℕ) (r : Option B
   pub others : (b : Block) → IsOutOf t m b → Stays t t' m m' b
   pub made : (b : Block) → r ≡ Some b → IsCleanOf t' m' b
 
+-- what the rule does with a request at a multiple of a
+abbrev pub aligned_allocated : LayerModel → Memory → (n a : ℕ) → After (Option Placed)
+aligned_allocated t m n a = t.rules.aligned_allocate n a (state_of t m) m.cells
+
+-- `aligned_allocate` of n bytes at a multiple of a
+pub record AlignedAllocates (t t' : LayerModel) (m m' : Memory) (n a : ℕ) (r : Option Block) : Type 0 where
+  pub frame : Frames t t' m m'
+  pub opened : are_open t'.fields ≡ are_open t.fields
+  pub answer : r ≡ block_in (aligned_allocated t m n a).answer
+  pub state : state_of t' m' ≡ (aligned_allocated t m n a).state
+  pub cells : m'.cells ≡ (aligned_allocated t m n a).cells
+  pub others : (b : Block) → IsOutOf t m b → Stays t t' m m' b
+  pub made : (b : Block) → r ≡ Some b → IsCleanOf t' m' b
+
 -- what the rule does with a block that is given back
 abbrev pub deallocated : LayerModel → Memory → Block → After Bool
 deallocated t m b = t.rules.deallocate b (state_of t m) m.cells
@@ -153,6 +168,50 @@ pub record Expands (t t' : LayerModel) (m m' : Memory) (b b' : Block) (delta : �
   pub carried : Carries t t' m m' b b' b.len
   pub others : (c : Block) → IsOutOf t m c → (r ≡ true → AreApartIn t m b c) → Stays t t' m m' c
 
+-- what a rule does with a block that is to have n bytes: the layer's own, the general form, and a move alone
+abbrev pub reallocated : LayerModel → Memory → Block → (n : ℕ) → After Reallocated
+reallocated t m b n = t.rules.reallocate n b (state_of t m) m.cells
+
+abbrev pub reallocated_generally : LayerModel → Memory → Block → (n : ℕ) → After Reallocated
+reallocated_generally t m b n =
+    asked_to_reallocate n t.rules.deallocate (general_reallocate n t.rules.offers t.rules.expand (t.rules.allocate n) t.rules.deallocate) b (state_of t m) m.cells
+
+abbrev pub moved : LayerModel → Memory → Block → (n : ℕ) → After Reallocated
+moved t m b n = move_to (t.rules.allocate n) t.rules.deallocate b (state_of t m) m.cells
+
+-- whether it was done, and the block then: where it is now, no block, or as it was
+abbrev pub is_done : Reallocated → Bool
+is_done (moved_to c) = true
+is_done emptied = true
+is_done unmoved = false
+
+abbrev pub block_after : Block → Reallocated → Block
+block_after b (moved_to c) = c
+block_after b emptied = no_block
+block_after b unmoved = b
+
+-- A reallocation of the block b, by what a rule does; b' is what it is then. As many bytes are kept as both lengths have.
+pub record ReallocatesBy (rule : After Reallocated) (t t' : LayerModel) (m m' : Memory) (b b' : Block) (r : Bool) : Type 0 where
+  pub frame : Frames t t' m m'
+  pub opened : are_open t'.fields ≡ are_open t.fields
+  pub answer : r ≡ is_done rule.answer
+  pub block : b' ≡ block_after b rule.answer
+  pub state : state_of t' m' ≡ rule.state
+  pub cells : m'.cells ≡ rule.cells
+  pub carried : 1 ≤ b'.len → Carries t t' m m' b b' (min b.len b'.len)
+  pub others : (c : Block) → IsOutOf t m c → (r ≡ true → AreApartIn t m b c) → Stays t t' m m' c
+
+-- `reallocate` to n bytes
+abbrev pub Reallocates : (t t' : LayerModel) (m m' : Memory) (b b' : Block) (n : ℕ) (r : Bool) → Type 0
+Reallocates t t' m m' b b' n r = ReallocatesBy (reallocated t m b n) t t' m m' b b' r
+
+-- the same by the general form, and by a move
+abbrev pub ReallocatesGenerally : (t t' : LayerModel) (m m' : Memory) (b b' : Block) (n : ℕ) (r : Bool) → Type 0
+ReallocatesGenerally t t' m m' b b' n r = ReallocatesBy (reallocated_generally t m b n) t t' m m' b b' r
+
+abbrev pub MovesBlock : (t t' : LayerModel) (m m' : Memory) (b b' : Block) (n : ℕ) (r : Bool) → Type 0
+MovesBlock t t' m m' b b' n r = ReallocatesBy (moved t m b n) t t' m m' b b' r
+
 -- what the rule leaves of all blocks
 abbrev pub all_deallocated : LayerModel → Memory → Opened
 all_deallocated t m = t.rules.deallocate_all (state_of t m) m.cells
@@ -163,6 +222,22 @@ pub record DeallocatesAll (t t' : LayerModel) (m m' : Memory) : Type 0 where
   pub opened : are_open t'.fields ≡ are_open t.fields
   pub state : state_of t' m' ≡ (all_deallocated t m).state
   pub cells : m'.cells ≡ (all_deallocated t m).cells
+
+-- `owns` of the block. It is given no Space, so this is said whatever the bytes are.
+pub record Owns (t t' : LayerModel) (b : Block) (r : Bool) : Type 0 where
+  pub rules : t'.rules ≡ t.rules
+  pub opened : are_open t'.fields ≡ are_open t.fields
+  pub answer : r ≡ (t.rules.owns b (kept_state t)).owned
+  pub state : (bytes : List ℕ) → t'.rules.read t'.fields bytes ≡ (t.rules.owns b (t.rules.read t.fields bytes)).state
+  pub image : (bytes : List ℕ) → t.rules.is_image t.fields (t.rules.read t.fields bytes) bytes ≡ true
+      → t'.rules.is_image t'.fields (t'.rules.read t'.fields bytes) bytes ≡ true
+
+-- the numbers that a node keeps, counted as in the report
+abbrev pub numbers_at : LayerModel → (node : ℕ) → List ℕ
+numbers_at t node = get_or (t.rules.state_numbers t.fields) node []
+
+abbrev pub IsNumberOf : LayerModel → (node k number : ℕ) → Type 0
+IsNumberOf t node k number = slice_get (numbers_at t node) k ≡ Some number
 
 -- what the report says of a node
 abbrev pub IsFactOf : LayerModel → Memory → (node : ℕ) → Fact → Type 0

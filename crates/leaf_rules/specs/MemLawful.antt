@@ -1,29 +1,33 @@
 -- A leaf is regular and, where its tag is not 0, lawful.
-use Rattle.std.proofs.Common.{◌≡◌, refl, sym, ap, subst, ◌∙◌, ℕ, zero, suc, ◌≤◌, ◌<◌, ◌+◌, ◌-◌, ◌*◌, ◌/◌, ◌%◌, ◌⊎◌, inl, inr, Bool, true, false, arith, List, [], ◌∷◌, get_or, length, length-drop, drop, map, max, Option, Some, None, nat_eq}
+use Rattle.std.proofs.Common.{◌≡◌, refl, sym, ap, subst, ◌∙◌, ℕ, zero, suc, ◌≤◌, ◌<◌, ◌+◌, ◌-◌, ◌*◌, ◌/◌, ◌%◌, ◌⊎◌, inl, inr, Bool, true, false, arith, List, [], ◌∷◌, get_or, length, length-drop, drop, map, max, Option, Some, None, nat_eq, nat_lt, cond}
 use Rattle.std.proofs.lemmas.Bool.Decides.{nat_tests}
 use Rattle.std.proofs.lemmas.List.{get_or-drop, length-map}
-use Rattle.size_round.specs.Sizes.{ceil_div}
+use Rattle.size_round.specs.Sizes.{limit, ceil_div}
+use Rattle.size_round.specs.SizeMeanings.{IsMultiple}
 use Rattle.space_core.specs.Runs.{put_run}
 use Rattle.space_core.specs.CellRuns.{length-put_run, starts_free-length, tagged-inside}
-use Rattle.space_core.specs.Cells.{Cells, free_tag, taken_cells, cell_size, cells_with, cell_at, cells_touched, tag_cells, least_cells}
+use Rattle.space_core.specs.Cells.{Cells, free_tag, taken_cells, cell_size, cells_with, cell_at, cells_touched, tag_cells, least_cells, cell_behind, more_cells, has_room_behind}
 use Rattle.space_core.specs.Memory.{most_cells}
 use Rattle.layer_rules.specs.declared.Block.{Block}
 use Rattle.layer_rules.specs.Blocks.{block, end_of, is_apart, with_len}
 use Rattle.layer_rules.specs.State.{State, open_with, nothing, no_children, is_open}
 use Rattle.layer_rules.specs.After.{After, after, placed, Placed, refuse}
 use Rattle.layer_rules.specs.After.{opened as open_as}
+use Rattle.layer_rules.specs.Allocating.{asked_for, served_unless}
 use Rattle.layer_rules.specs.Owning.{is_plausible}
 use Rattle.layer_rules.specs.Rules.{IsLeaf, IsSettled, AreApart, HasSomeTags}
 use Rattle.layer_rules.specs.Testing.{is_bare}
 use Rattle.layer_rules.specs.Units.{touched_block}
-use Rattle.leaf_rules.specs.MemRules.{has_cells, can_expand, after_cells, further_cells, mem_allocate, mem_expand, mem_rules}
+use Rattle.leaf_rules.specs.MemRules.{has_cells, mem_allocate, mem_expand, mem_offers, mem_rules}
 use Rattle.leaf_rules.specs.LeafMeanings.{IsOutCells, OutOfLeaf, MemIsLawful}
-use Rattle.layer_laws.specs.CellRooms.{multiple_from_rest}
+use Rattle.layer_laws.specs.CellRooms.{multiple_from_rest, least_cells_are_least}
 use Rattle.layer_laws.specs.Runs.{starts_free-at, free-cell, starts_taken-at, starts_taken-from, put_run-below, put_run-above, put_run-in, first_run-found}
 use Rattle.layer_laws.specs.Tables.{tag-in_range}
-use Rattle.layer_laws.specs.Tests.{opened, settle, some-byte, some-open, settled-moved}
-use Rattle.layer_laws.specs.Steps.{refuse-good, asked-good, kept-short, asked-grown}
-use Rattle.layer_laws.specs.Lawful.{IsOwnTag, OnlyOwnCells, IsGood, Good, Freeing, IsGrown, Growing, OnlyFreed, Emptying, Covering, Routing, Aligning, OutTags, SettledTags, Opens, KeepingLaws, PlacingLaws, FramingLaws, OpeningLaws}
+use Rattle.layer_laws.specs.Reallocated.{generally-reallocated}
+use Rattle.layer_laws.specs.Takings.{TakesOwn, takes-refuse}
+use Rattle.layer_laws.specs.Tests.{opened, settle, some-byte, some-open, settled-moved, takes-none}
+use Rattle.layer_laws.specs.Steps.{refuse-good, asked-good, kept-short, asked-grown, asked-aligned, same-told}
+use Rattle.layer_laws.specs.Lawful.{IsOwnTag, OnlyOwnCells, IsGood, Good, Freeing, IsGrown, Growing, OnlyFreed, Emptying, Covering, Routing, Aligning, OutTags, SettledTags, Opens, KeepingLaws, PlacingLaws, FramingLaws, OpeningLaws, AtMultiple, AlignedGood}
 use Rattle.layer_laws.specs.TornDown.{freed-cell}
 
 -- ---- what the tests say
@@ -119,6 +123,14 @@ cells-apart i n b z l a (inr x) = grind (arith, nat_tests)
 
 -- ---- a request
 
+-- what a request leaves where the least run of cells is found, or not
+abbrev pub Served : (tag n : ℕ) → State → Cells → Option ℕ → After (Option Placed)
+Served tag n s cells o =
+    elim o [
+      | None ↦ refuse s cells
+      | Some i ↦ after (Some (placed (block (cell_size * i) n) [])) s (tag_cells tag i (ceil_div n cell_size) cells)
+    ]
+
 mem-serves-good : (tag n i : ℕ) (s : State) (cells : Cells) → 1 ≤ tag → 1 ≤ n → is_open s ≡ true → IsSettled (mem_rules tag) s cells → IsFreeCells cells i (ceil_div n cell_size)
     → IsGood (mem_rules tag) s cells n (after (Some (placed (block (cell_size * i) n) [])) s (tag_cells tag i (ceil_div n cell_size) cells))
 unfolding mem_rules
@@ -131,6 +143,7 @@ mem-serves-good tag n i s cells w l o h f =
       is_set = o;
       settled = settle s (tag ∷ []) (tag_cells tag i k cells) (is_bare s) o (opened s (tag ∷ []) cells (is_bare s) o h);
       extents = λ b. refl;
+      routes = λ b x. refl;
       stays = λ b x. let y = out-mem tag b s cells x in mem-out tag b s (tag_cells tag i k cells) w (record { is_set = o; some = y.some; aligned = y.aligned; tagged = λ c p q. keeps c (y.tagged c p q) });
       len = λ p e. let z : placed (block (cell_size * i) n) [] ≡ p = cc in sym (ap (λ (p : Placed). p.block.len) z);
       out = λ p e. let z : placed (block (cell_size * i) n) [] ≡ p = cc in subst (λ (p : Placed). (mem_rules tag).is_out p.block s (tag_cells tag i k cells) ≡ true) z
@@ -143,14 +156,46 @@ mem-serves-good tag n i s cells w l o h f =
     }
 
 mem-case : (tag n : ℕ) (s : State) (cells : Cells) (o : Option ℕ) → 1 ≤ tag → 1 ≤ n → is_open s ≡ true → IsSettled (mem_rules tag) s cells → ((i : ℕ) → o ≡ Some i → IsFreeCells cells i (ceil_div n cell_size))
-    → IsGood (mem_rules tag) s cells n (elim o as (λ _. After (Option Placed)) [ None ↦ refuse s cells | Some i ↦ after (Some (placed (block (cell_size * i) n) [])) s (tag_cells tag i (ceil_div n cell_size) cells) ])
+    → IsGood (mem_rules tag) s cells n (Served tag n s cells o)
 mem-case tag n s cells None w l o h f = refuse-good (mem_rules tag) n s cells o h
 mem-case tag n s cells (Some i) w l o h f = mem-serves-good tag n i s cells w l o h (f i refl)
 
+-- the cells that are found are free
+mem-found : (tag n a : ℕ) (s : State) (cells : Cells) → 1 ≤ tag → 1 ≤ n → is_open s ≡ true → IsSettled (mem_rules tag) s cells → IsGood (mem_rules tag) s cells n (mem_allocate tag n a s cells)
+mem-found tag n a s cells w l o h = mem-case tag n s cells (least_cells n a cells) w l o h (λ i e. found-free n a cells i l e)
+
 pub mem-good : (tag : ℕ) → 1 ≤ tag → Good (mem_rules tag)
 unfolding mem_rules
-mem-good tag w n s cells o h =
-    asked-good (mem_rules tag) n (mem_allocate tag n 1) s cells o h (λ l m. mem-case tag n s cells (least_cells n 1 cells) w l o h (λ i e. found-free n 1 cells i l e))
+mem-good tag w n s cells o h = asked-good (mem_rules tag) n (mem_allocate tag n 1) s cells o h (λ l m. mem-found tag n 1 s cells w l o h)
+
+mem-at_multiple : (tag n a : ℕ) (s : State) (cells : Cells) (o : Option ℕ) → ((i : ℕ) → o ≡ Some i → IsMultiple (cell_size * i) a)
+    → AtMultiple a (elim o as (λ _. After (Option Placed)) [ None ↦ refuse s cells | Some i ↦ after (Some (placed (block (cell_size * i) n) [])) s (tag_cells tag i (ceil_div n cell_size) cells) ]).answer
+mem-at_multiple tag n a s cells None f p z = absurd (cc)
+mem-at_multiple tag n a s cells (Some i) f p z = let y : placed (block (cell_size * i) n) [] ≡ p = cc in subst (λ (p : Placed). IsMultiple p.block.place a) y (f i refl)
+
+mem-aligned_good : (tag : ℕ) → 1 ≤ tag → AlignedGood (mem_rules tag)
+unfolding mem_rules
+mem-aligned_good tag w n a s cells p k o h =
+    asked-aligned (mem_rules tag) n a (mem_allocate tag n a) s cells o h (λ l m. record {
+      good = mem-found tag n a s cells w l o h;
+      aligned = mem-at_multiple tag n a s cells (least_cells n a cells) (λ i e. (least_cells_are_least n a cells i p e).aligned);
+    })
+
+-- the cells that it takes
+case-takes : (tag n : ℕ) (s : State) (cells : Cells) (o : Option ℕ) → ((i : ℕ) → o ≡ Some i → IsFreeCells cells i (ceil_div n cell_size)) → OnlyOwnCells (mem_rules tag) cells (Served tag n s cells o).cells
+case-takes tag n s cells None f = takes-none (mem_rules tag) cells
+case-takes tag n s cells (Some i) f = takes-run tag i (ceil_div n cell_size) cells (f i refl)
+
+some-takes : (tag n a : ℕ) (s : State) (cells : Cells) → 1 ≤ n → OnlyOwnCells (mem_rules tag) cells (mem_allocate tag n a s cells).cells
+some-takes tag n a s cells l = case-takes tag n s cells (least_cells n a cells) (λ i e. found-free n a cells i l e)
+
+unless-takes : (tag n a : ℕ) (x y : Bool) → nat_eq n 0 ≡ x → TakesOwn (mem_rules tag) (served_unless x y (mem_allocate tag n a))
+unless-takes tag n a true y e = takes-refuse (mem_rules tag)
+unless-takes tag n a false true e = takes-refuse (mem_rules tag)
+unless-takes tag n a false false e = λ s cells. some-takes tag n a s cells (grind (arith, nat_tests))
+
+pub mem-takes : (tag n a : ℕ) → TakesOwn (mem_rules tag) (asked_for n (mem_allocate tag n a))
+mem-takes tag n a = unless-takes tag n a (nat_eq n 0) (nat_lt limit n) refl
 
 -- ---- a block is given back
 
@@ -167,6 +212,7 @@ mem-freed tag w b s cells o h x =
       is_set = o;
       settled = settle s (tag ∷ []) (tag_cells 0 i k cells) (is_bare s) o (opened s (tag ∷ []) cells (is_bare s) o h);
       extents = λ c. refl;
+      routes = λ c p a. refl;
       stays = λ c p a.
           let z = out-mem tag c s cells p in
           mem-out tag c s (tag_cells 0 i k cells) w (record {
@@ -185,10 +231,10 @@ mem-freed tag w b s cells o h x =
 -- ---- a block grows
 
 -- the cells behind a block of a leaf are free
-behind-free : (tag : ℕ) (b : Block) (m : ℕ) (s : State) (cells : Cells) → 1 ≤ tag → (mem_rules tag).is_out b s cells ≡ true → can_expand b m cells ≡ true → IsFreeCells cells (after_cells b) (further_cells b m)
-behind-free tag b m s cells w x f =
-    let i = after_cells b in
-    let k = further_cells b m in
+behind-free : (tag : ℕ) (b : Block) (delta : ℕ) (s : State) (cells : Cells) → 1 ≤ tag → (mem_rules tag).is_out b s cells ≡ true → has_room_behind b.place b.len delta cells ≡ true → IsFreeCells cells (cell_behind b.place b.len) (more_cells b.place b.len delta)
+behind-free tag b delta s cells w x f =
+    let i = cell_behind b.place b.len in
+    let k = more_cells b.place b.len delta in
     let y = out-mem tag b s cells x in
     let l = starts_free-length k (drop i (taken_cells cells)) f in
     let d : length (drop i (taken_cells cells)) ≡ length cells.tags - i = rw length-drop (rw length-map refl) in
@@ -199,10 +245,10 @@ behind-free tag b m s cells w x f =
       inside = omega arith;
     }
 
-longer-apart : (b c : Block) (m : ℕ) → b.len ≤ m → 1 ≤ b.len → 1 ≤ c.len → b.place % 64 ≡ 0 → is_apart (touched_block 64 0 b) (touched_block 64 0 c) ≡ true
-    → (after_cells b + further_cells b m ≤ c.place / 64) ⊎ ((c.place + c.len + 63) / 64 ≤ after_cells b) → is_apart (touched_block 64 0 (with_len b m)) (touched_block 64 0 c) ≡ true
-longer-apart b c m l u v a x (inl y) = grind (arith, nat_tests)
-longer-apart b c m l u v a x (inr y) = grind (arith, nat_tests)
+longer-apart : (b c : Block) (delta : ℕ) → 1 ≤ b.len → 1 ≤ c.len → b.place % 64 ≡ 0 → is_apart (touched_block 64 0 b) (touched_block 64 0 c) ≡ true
+    → (cell_behind b.place b.len + more_cells b.place b.len delta ≤ c.place / 64) ⊎ ((c.place + c.len + 63) / 64 ≤ cell_behind b.place b.len) → is_apart (touched_block 64 0 (with_len b (b.len + delta))) (touched_block 64 0 c) ≡ true
+longer-apart b c delta u v a x (inl y) = grind (arith, nat_tests)
+longer-apart b c delta u v a x (inr y) = grind (arith, nat_tests)
 
 -- free cells and cells with a tag do not meet
 tagged-beside : (cells : Cells) (i k p q tag : ℕ) → 1 ≤ tag → p < q → IsFreeCells cells i k → ((c : ℕ) → p ≤ c → c < q → get_or cells.tags c 0 ≡ tag) → (i + k ≤ p) ⊎ (q ≤ i) ⊎ (k ≡ 0)
@@ -210,13 +256,12 @@ tagged-beside cells i zero p q tag w l f t = inr (inr refl)
 tagged-beside cells i (suc k) p q tag w l f t =
     elim (runs-meet i (i + suc k) p q (omega arith) l (λ c x y u v. let a = f.free c x y in let b = t c u v in omega arith)) [ inl z ↦ inl z | inr z ↦ inr (inl z) ]
 
-mem-grows : (tag : ℕ) (b : Block) (delta : ℕ) (s : State) (cells : Cells) → 1 ≤ tag → is_open s ≡ true → IsSettled (mem_rules tag) s cells → (mem_rules tag).is_out b s cells ≡ true → IsFreeCells cells (after_cells b) (further_cells b (b.len + delta))
-    → IsGrown (mem_rules tag) s cells b delta (after true s (tag_cells tag (after_cells b) (further_cells b (b.len + delta)) cells))
+mem-grows : (tag : ℕ) (b : Block) (delta : ℕ) (s : State) (cells : Cells) → 1 ≤ tag → is_open s ≡ true → IsSettled (mem_rules tag) s cells → (mem_rules tag).is_out b s cells ≡ true → IsFreeCells cells (cell_behind b.place b.len) (more_cells b.place b.len delta)
+    → IsGrown (mem_rules tag) s cells b delta (after true s (tag_cells tag (cell_behind b.place b.len) (more_cells b.place b.len delta) cells))
 unfolding mem_rules
 mem-grows tag b delta s cells w o h x f =
-    let m = b.len + delta in
-    let i = after_cells b in
-    let k = further_cells b m in
+    let i = cell_behind b.place b.len in
+    let k = more_cells b.place b.len delta in
     let T = cells.tags in
     let new = tag_cells tag i k cells in
     let y = out-mem tag b s cells x in
@@ -224,8 +269,9 @@ mem-grows tag b delta s cells w o h x f =
       is_set = o;
       settled = settle s (tag ∷ []) new (is_bare s) o (opened s (tag ∷ []) cells (is_bare s) o h);
       extents = λ c. refl;
+      routes = λ c p a. refl;
       stays = λ c p a. let z = out-mem tag c s cells p in mem-out tag c s new w (record { is_set = o; some = z.some; aligned = z.aligned; tagged = λ j u v. tag-stays tag i k cells j f (z.tagged j u v) });
-      out = mem-out tag (with_len b m) s new w (record {
+      out = mem-out tag (with_len b (b.len + delta)) s new w (record {
         is_set = o;
         some = omega (arith, y.some);
         aligned = y.aligned;
@@ -239,25 +285,25 @@ mem-grows tag b delta s cells w o h x f =
           let d = tagged-beside cells i k (cell_at c.place) (cell_at c.place + cells_touched c.place c.len) tag w (omega (arith, z.some)) f z.tagged in
           record {
             either = elim d [
-              | inl l ↦ longer-apart b c m (omega arith) y.some z.some y.aligned a.either (inl l)
-              | inr q ↦ elim q [ inl l ↦ longer-apart b c m (omega arith) y.some z.some y.aligned a.either (inr (omega arith)) | inr l ↦ same-cells b c m y.some y.aligned (omega arith) l a.either ]
+              | inl l ↦ longer-apart b c delta y.some z.some y.aligned a.either (inl l)
+              | inr q ↦ elim q [ inl l ↦ longer-apart b c delta y.some z.some y.aligned a.either (inr (omega arith)) | inr l ↦ same-cells b c y.some y.aligned l a.either ]
             ];
           };
       table = takes-run tag i k cells f;
     }
   where
-    same-cells : (b c : Block) (m : ℕ) → 1 ≤ b.len → b.place % 64 ≡ 0 → b.len ≤ m → further_cells b m ≡ 0 → is_apart (touched_block 64 0 b) (touched_block 64 0 c) ≡ true → is_apart (touched_block 64 0 (with_len b m)) (touched_block 64 0 c) ≡ true
-    same-cells b c m s a l z h = grind (arith, nat_tests)
+    same-cells : (b c : Block) → 1 ≤ b.len → b.place % 64 ≡ 0 → more_cells b.place b.len delta ≡ 0 → is_apart (touched_block 64 0 b) (touched_block 64 0 c) ≡ true → is_apart (touched_block 64 0 (with_len b (b.len + delta))) (touched_block 64 0 c) ≡ true
+    same-cells b c s a z h = grind (arith, nat_tests)
 
-mem-grow-case : (tag : ℕ) (b : Block) (delta : ℕ) (s : State) (cells : Cells) (q : Bool) → can_expand b (b.len + delta) cells ≡ q → 1 ≤ tag → is_open s ≡ true → IsSettled (mem_rules tag) s cells → (mem_rules tag).is_out b s cells ≡ true
-    → IsGrown (mem_rules tag) s cells b delta (elim q [ true ↦ after true s (tag_cells tag (after_cells b) (further_cells b (b.len + delta)) cells) | false ↦ after false s cells ])
-mem-grow-case tag b delta s cells true q w o h x = mem-grows tag b delta s cells w o h x (behind-free tag b (b.len + delta) s cells w x q)
+mem-grow-case : (tag : ℕ) (b : Block) (delta : ℕ) (s : State) (cells : Cells) (q : Bool) → has_room_behind b.place b.len delta cells ≡ q → 1 ≤ tag → is_open s ≡ true → IsSettled (mem_rules tag) s cells → (mem_rules tag).is_out b s cells ≡ true
+    → IsGrown (mem_rules tag) s cells b delta (after q s (cond q (tag_cells tag (cell_behind b.place b.len) (more_cells b.place b.len delta) cells) cells))
+mem-grow-case tag b delta s cells true q w o h x = mem-grows tag b delta s cells w o h x (behind-free tag b delta s cells w x q)
 mem-grow-case tag b delta s cells false q w o h x = kept-short (mem_rules tag) s cells b delta o h x
 
 mem-grown : (tag : ℕ) → 1 ≤ tag → Growing (mem_rules tag)
 unfolding mem_rules
 mem-grown tag w delta b s cells o h x =
-    asked-grown (mem_rules tag) delta (mem_expand tag delta) b s cells o h x (λ l m. mem-grow-case tag b delta s cells (can_expand b (b.len + delta) cells) refl w o h x)
+    asked-grown (mem_rules tag) delta (mem_expand tag delta) b s cells o h x (λ l m. mem-grow-case tag b delta s cells (has_room_behind b.place b.len delta cells) refl w o h x)
 
 -- ---- all blocks are taken back
 
@@ -321,7 +367,19 @@ mem-settled_tags tag w s old new k h = settled-moved (mem_rules tag) s old new (
 
 pub mem-keeping : (tag : ℕ) → 1 ≤ tag → KeepingLaws (mem_rules tag)
 unfolding mem_rules
-mem-keeping tag w = record { out_some = λ b s cells o. some-byte _ _ b.len o; out_open = λ b s cells o. some-open (is_open s) _ _ o; good = mem-good tag w; freed = mem-freed tag w; grown = mem-grown tag w; emptied = mem-emptied tag w }
+mem-keeping tag w =
+    let some = λ (b : Block) (s : State) (cells : Cells) (o : (mem_rules tag).is_out b s cells ≡ true). some-byte _ _ b.len o in
+    record {
+      out_some = some;
+      out_open = λ b s cells o. some-open (is_open s) _ _ o;
+      good = mem-good tag w;
+      freed = mem-freed tag w;
+      grown = mem-grown tag w;
+      emptied = mem-emptied tag w;
+      reallocated = generally-reallocated (mem_rules tag) mem_offers (record { some = some; takes = λ n. mem-takes tag n 1; good = mem-good tag w; freed = mem-freed tag w; grown = mem-grown tag w });
+      aligned = mem-aligned_good tag w;
+      owned = λ b s cells h. same-told (mem_rules tag) s cells h;
+    }
 
 pub mem-placing : (tag : ℕ) → 1 ≤ tag → PlacingLaws (mem_rules tag)
 mem-placing tag w = record { covers = mem-covers tag; routed = mem-routed tag; aligned = mem-aligned tag; out_tags = mem-out_tags tag w; settled_tags = mem-settled_tags tag w }

@@ -1,26 +1,26 @@
 -- A leaf is regular, whatever its tag.
-use Rattle.std.proofs.Common.{◌≡◌, refl, ℕ, ◌≤◌, ◌+◌, ◌*◌, Bool, true, false, arith, [], Option, Some, None, is_none, nat_eq, nat_lt}
-use Rattle.std.proofs.lemmas.Bool.Decides.{nat_tests}
-use Rattle.size_round.specs.Sizes.{limit, up, ceil_div}
+use Rattle.std.proofs.Common.{◌≡◌, refl, ℕ, Bool, true, false, arith, Option, Some, None, is_none, cond}
+use Rattle.size_round.specs.Sizes.{up}
 use Rattle.size_round.specs.UpLeast.{enough_times}
-use Rattle.space_core.specs.Cells.{Cells, cell_size, cell_at, cells_touched, tag_cells, least_cells}
+use Rattle.space_core.specs.Cells.{Cells, cell_size, cell_at, cells_touched, tag_cells, least_cells, cell_behind, more_cells, has_room_behind}
 use Rattle.space_core.specs.CellRuns.{length-put_run}
 use Rattle.layer_laws.specs.Tables.{count-free_tag}
-use Rattle.layer_rules.specs.After.{After, after, placed, Placed, refuse}
-use Rattle.layer_rules.specs.Allocating.{asked_for, served_unless}
-use Rattle.layer_rules.specs.Blocks.{block}
+use Rattle.layer_rules.specs.After.{after}
+use Rattle.layer_rules.specs.Allocating.{asked_for}
 use Rattle.layer_rules.specs.Expanding.{asked_to_expand}
 use Rattle.layer_rules.specs.State.{State, open_with, nothing, no_children, is_open}
-use Rattle.leaf_rules.specs.MemRules.{can_expand, after_cells, further_cells, mem_allocate, mem_expand, mem_deallocate, mem_offers, mem_rules}
+use Rattle.leaf_rules.specs.MemRules.{mem_allocate, mem_expand, mem_deallocate, mem_offers, mem_rules}
 use Rattle.leaf_rules.specs.LeafMeanings.{MemIsRegular}
-use Rattle.leaf_rules.specs.MemLawful.{IsFreeCells, found-free, takes-run}
+use Rattle.leaf_rules.specs.MemLawful.{Served, mem-takes}
 use Rattle.layer_laws.specs.GoodSizes.{served-enough, unserved-zero, unserved-above, power-alignment}
-use Rattle.layer_laws.specs.Lawful.{TellingLaws, ReadingLaws, RefusingLaws, TailLaws, OpennessLaws, OwningLaws, TakingLaws, KeptOnNone, KeepsOnNone, KeptOnFalse, KeepsOnFalse, OnlyOwnCells}
+use Rattle.layer_laws.specs.Lawful.{TellingLaws, ReadingLaws, RefusingLaws, TailLaws, OpennessLaws, OwningLaws, TakingLaws, KeptOnNone, KeepsOnNone, KeptOnFalse, KeepsOnFalse, RefusedLaws, UnrangedLaws}
 use Rattle.layer_laws.specs.Reallocations.{keeps-asked_to_expand, keeps-asked_to_reallocate, keeps-general_reallocate}
 use Rattle.layer_laws.specs.Requests.{keeps-asked_for, is_refusal, none-asked_for}
 use Rattle.layer_laws.specs.StayingOpen.{StaysOpen, StaysOpenBy, stays-asked_for, stays-asked_to_expand, stays-asked_to_reallocate, stays-general_reallocate, sets-open}
-use Rattle.layer_laws.specs.Takings.{TakesOwn, takes-refuse, took-opened}
-use Rattle.layer_laws.specs.Tests.{set-up-opens, takes-none}
+use Rattle.layer_laws.specs.Takings.{took-opened}
+use Rattle.layer_laws.specs.Tests.{set-up-opens}
+use Rattle.layer_laws.specs.Unranged.{refused-refusing, unranged-regular}
+use Rattle.layer_laws.specs.Paths.{along-at_no_child}
 
 -- ---- telling and reading
 
@@ -50,14 +50,6 @@ mem-reading tag = record {
 
 -- ---- refusing
 
--- what a request leaves where the least run of cells is found, or not
-abbrev Served : (tag n : ℕ) → State → Cells → Option ℕ → After (Option Placed)
-Served tag n s cells o =
-    elim o [
-      | None ↦ refuse s cells
-      | Some i ↦ after (Some (placed (block (cell_size * i) n) [])) s (tag_cells tag i (ceil_div n cell_size) cells)
-    ]
-
 case-kept : (tag n : ℕ) (s : State) (cells : Cells) (o : Option ℕ) → KeptOnNone s cells (Served tag n s cells o)
 case-kept tag n s cells None h = (refl, refl)
 case-kept tag n s cells (Some i) h = absurd (cc)
@@ -72,16 +64,17 @@ case-none tag n s cells (Some i) = refl
 allocate-none : (tag n a : ℕ) (s : State) (cells : Cells) → is_refusal (mem_allocate tag n a s cells) ≡ is_none (least_cells n a cells)
 allocate-none tag n a s cells = case-none tag n s cells (least_cells n a cells)
 
-case-shut : (s : State) (cells new : Cells) (q : Bool) → KeptOnFalse s cells (elim q as (λ _. After Bool) [ true ↦ after true s new | false ↦ after false s cells ])
+case-shut : (s : State) (cells new : Cells) (q : Bool) → KeptOnFalse s cells (after q s (cond q new cells))
 case-shut s cells new true h = absurd (cc)
 case-shut s cells new false h = (refl, refl)
 
 expand-keeps : (tag delta : ℕ) → KeepsOnFalse (mem_expand tag delta)
-expand-keeps tag delta b s cells = case-shut s cells (tag_cells tag (after_cells b) (further_cells b (b.len + delta)) cells) (can_expand b (b.len + delta) cells)
+expand-keeps tag delta b s cells =
+    case-shut s cells (tag_cells tag (cell_behind b.place b.len) (more_cells b.place b.len delta) cells) (has_room_behind b.place b.len delta cells)
 
-mem-refusing : (tag : ℕ) → RefusingLaws (mem_rules tag)
+mem-refused : (tag : ℕ) → RefusedLaws (mem_rules tag)
 unfolding mem_rules
-mem-refusing tag =
+mem-refused tag =
     let allocates = λ (n a : ℕ). keeps-asked_for n (mem_allocate tag n a) (allocate-keeps tag n a) in
     let expands = λ (d : ℕ). keeps-asked_to_expand d (mem_expand tag d) (expand-keeps tag d) in
     record {
@@ -89,13 +82,18 @@ mem-refusing tag =
       aligned_allocate = allocates;
       expand = expands;
       reallocate = λ n. keeps-asked_to_reallocate n mem_deallocate _ (keeps-general_reallocate n mem_offers (λ d. asked_to_expand d (mem_expand tag d)) (asked_for n (mem_allocate tag n 1)) mem_deallocate expands (allocates n 1));
-      none = λ n s cells t. none-asked_for n (mem_allocate tag n 1) s cells (is_none (least_cells n 1 cells)) (λ l m. allocate-none tag n 1 s cells);
-      none_aligned = λ n a s cells. none-asked_for n (mem_allocate tag n a) s cells (is_none (least_cells n a cells)) (λ l m. allocate-none tag n a s cells);
       free_tails = λ s cells h. refl;
       refuses_uncounted = λ n s t cells e. refl;
       refuses_aligned_uncounted = λ n a s t cells e. refl;
       free_tails_uncounted = λ s t e. refl;
     }
+
+mem-refusing : (tag : ℕ) → RefusingLaws (mem_rules tag)
+unfolding mem_rules
+mem-refusing tag =
+    refused-refusing (mem_rules tag) (mem-refused tag)
+    (λ n s cells t. none-asked_for n (mem_allocate tag n 1) s cells (is_none (least_cells n 1 cells)) (λ l m. allocate-none tag n 1 s cells))
+    (λ n a s cells. none-asked_for n (mem_allocate tag n a) s cells (is_none (least_cells n a cells)) (λ l m. allocate-none tag n a s cells))
 
 mem-tails : (tag : ℕ) → TailLaws (mem_rules tag)
 unfolding mem_rules
@@ -110,12 +108,8 @@ case-open tag n s cells (Some i) = refl
 allocate-stays : (tag n a : ℕ) → StaysOpen (mem_allocate tag n a)
 allocate-stays tag n a s cells = case-open tag n s cells (least_cells n a cells)
 
-case-expand_open : (s : State) (cells new : Cells) (q : Bool) → is_open (elim q as (λ _. After Bool) [ true ↦ after true s new | false ↦ after false s cells ]).state ≡ is_open s
-case-expand_open s cells new true = refl
-case-expand_open s cells new false = refl
-
 expand-stays : (tag delta : ℕ) → StaysOpenBy (mem_expand tag delta)
-expand-stays tag delta b s cells = case-expand_open s cells (tag_cells tag (after_cells b) (further_cells b (b.len + delta)) cells) (can_expand b (b.len + delta) cells)
+expand-stays tag delta b s cells = refl
 
 deallocate-stays : StaysOpenBy mem_deallocate
 deallocate-stays b s cells = refl
@@ -140,25 +134,13 @@ mem-openness tag =
 
 mem-owning : (tag : ℕ) → OwningLaws (mem_rules tag)
 unfolding mem_rules
-mem-owning tag = record { answer = λ b s. refl; rest = λ b s. refl; not_owned = λ b s h. refl; open_holds = λ b s h. absurd (cc); holds_uncounted = λ b s t q. refl }
-
-case-takes : (tag n : ℕ) (s : State) (cells : Cells) (o : Option ℕ) → ((i : ℕ) → o ≡ Some i → IsFreeCells cells i (ceil_div n cell_size)) → OnlyOwnCells (mem_rules tag) cells (Served tag n s cells o).cells
-case-takes tag n s cells None f = takes-none (mem_rules tag) cells
-case-takes tag n s cells (Some i) f = takes-run tag i (ceil_div n cell_size) cells (f i refl)
-
-some-takes : (tag n a : ℕ) (s : State) (cells : Cells) → 1 ≤ n → OnlyOwnCells (mem_rules tag) cells (mem_allocate tag n a s cells).cells
-some-takes tag n a s cells l = case-takes tag n s cells (least_cells n a cells) (λ i e. found-free n a cells i l e)
-
-unless-takes : (tag n a : ℕ) (x y : Bool) → nat_eq n 0 ≡ x → TakesOwn (mem_rules tag) (served_unless x y (mem_allocate tag n a))
-unless-takes tag n a true y e = takes-refuse (mem_rules tag)
-unless-takes tag n a false true e = takes-refuse (mem_rules tag)
-unless-takes tag n a false false e = λ s cells. some-takes tag n a s cells (grind (arith, nat_tests))
+mem-owning tag = record { answer = λ b s. refl; rest = λ b s. refl; not_owned = λ b s h. refl; open_holds = λ b s h. absurd (cc); holds_uncounted = λ b s t q. refl; along = λ path possible b s. along-at_no_child false path possible }
 
 mem-taking : (tag : ℕ) → TakingLaws (mem_rules tag)
 unfolding mem_rules
 mem-taking tag = record {
-  allocate = λ n. unless-takes tag n 1 (nat_eq n 0) (nat_lt limit n) refl;
-  aligned_allocate = λ n a. unless-takes tag n a (nat_eq n 0) (nat_lt limit n) refl;
+  allocate = λ n. mem-takes tag n 1;
+  aligned_allocate = mem-takes tag;
   set_up = λ need cells o q. took-opened (mem_rules tag) (open_with nothing no_children) cells o q;
   deallocate_count = λ b s cells. length-put_run 0 (cell_at b.place) (cells_touched b.place b.len) cells.tags;
   deallocate_all_count = λ s cells. count-free_tag tag cells;
@@ -167,5 +149,8 @@ mem-taking tag = record {
 
 -- ---- all of them
 
+pub mem-unranged : (tag : ℕ) → UnrangedLaws (mem_rules tag)
+mem-unranged tag = record { reading = mem-reading tag; refused = mem-refused tag; tails = mem-tails tag; openness = mem-openness tag; owning = mem-owning tag; taking = mem-taking tag }
+
 pub mem_is_regular : MemIsRegular
-mem_is_regular tag = record { telling = mem-telling tag; reading = mem-reading tag; refusing = mem-refusing tag; tails = mem-tails tag; openness = mem-openness tag; owning = mem-owning tag; taking = mem-taking tag }
+mem_is_regular tag = unranged-regular (mem_rules tag) (mem-unranged tag) (mem-telling tag) (mem-refusing tag)

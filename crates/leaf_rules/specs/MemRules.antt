@@ -1,8 +1,8 @@
 -- A leaf: runs of cells with its tag, the least one first.
-use Rattle.std.specs.Prelude.{ℕ, ◌+◌, ◌-◌, ◌*◌, ◌/◌, ◌%◌, Bool, true, false, ◌&&◌, [], ◌∷◌, Some, None, Ok, is_none, nat_eq, get_or}
+use Rattle.std.specs.Prelude.{ℕ, ◌*◌, ◌/◌, ◌%◌, Bool, true, false, ◌&&◌, [], ◌∷◌, Some, None, Ok, is_none, nat_eq, get_or}
 use Rattle.size_round.specs.Sizes.{ceil_div, up}
-use Rattle.space_core.specs.Cells.{Cells, cell_size, cell_at, taken_cells, used_by, has_tag, tag_cells, free_tag, cells_given, least_cells}
-use Rattle.space_core.specs.Runs.{first_run, put_run, starts_free, starts_taken, is_free_run}
+use Rattle.space_core.specs.Cells.{Cells, cell_size, used_by, has_tag, tag_cells, free_tag, cells_given, least_cells, has_room_behind, cells_grown}
+use Rattle.space_core.specs.Runs.{first_run, put_run, starts_free, starts_taken}
 use Rattle.layer_rules.specs.declared.Block.{Block}
 use Rattle.layer_rules.specs.declared.Fact.TheVariants as Said
 use Rattle.layer_rules.specs.declared.Offers.{Offers}
@@ -24,18 +24,6 @@ use Rattle.layer_rules.specs.Units.{touched_block}
 
 -- ---- the cells of a block
 
--- the cells that a block needs beyond its own, to be as long as m
-abbrev pub further_cells : Block → (m : ℕ) → ℕ
-further_cells b m = ceil_div m cell_size - ceil_div b.len cell_size
-
--- the first cell behind the block's cells
-abbrev pub after_cells : Block → ℕ
-after_cells b = cell_at b.place + ceil_div b.len cell_size
-
--- the further cells are there and free
-abbrev pub can_expand : Block → (m : ℕ) → Cells → Bool
-can_expand b m cells = is_free_run (taken_cells cells) (after_cells b) (further_cells b m)
-
 -- each cell that the block touches is there and has the tag
 abbrev pub has_cells : (tag : ℕ) → Block → Cells → Bool
 has_cells tag b cells = has_tag tag b.place b.len cells
@@ -56,11 +44,7 @@ mem_allocate tag n a s cells =
 
 -- into the cells behind the block, where these are free
 abbrev pub mem_expand : (tag delta : ℕ) → Change
-mem_expand tag delta b s cells =
-    elim (can_expand b (b.len + delta) cells) [
-      | true ↦ after true s (tag_cells tag (after_cells b) (further_cells b (b.len + delta)) cells)
-      | false ↦ after false s cells
-    ]
+mem_expand tag delta b s cells = after (has_room_behind b.place b.len delta cells) s (cells_grown tag b.place b.len delta cells)
 
 abbrev pub mem_deallocate : Change
 mem_deallocate b s cells = after true s (cells_without b cells)

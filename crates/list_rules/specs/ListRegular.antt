@@ -19,8 +19,8 @@ use Rattle.layer_rules.specs.Reallocating.{general_reallocate}
 use Rattle.layer_rules.specs.Rules.{Rules, IsIn, IsLeaf, IsSettled, without_leaves}
 use Rattle.layer_laws.specs.Basics.{and-fst, and-snd}
 use Rattle.layer_laws.specs.Chooses.{EachMember, EachNumber}
-use Rattle.layer_laws.specs.MembersLawful.{all-regular, facts-of_each}
-use Rattle.layer_laws.specs.Lawful.{IsAlignment, TellingLaws, ReadingLaws, RefusingLaws, TailLaws, OpennessLaws, OwningLaws, TakingLaws, IsRegular, KeepsOnNone, KeepsOnFalse, OnlyOwnCells}
+use Rattle.layer_laws.specs.MembersLawful.{all-regular, all-unranged, facts-of_each}
+use Rattle.layer_laws.specs.Lawful.{IsAlignment, TellingLaws, ReadingLaws, RefusingLaws, RefusedLaws, UnrangedLaws, TailLaws, OpennessLaws, OwningLaws, TakingLaws, IsRegular, KeepsOnNone, KeepsOnFalse, OnlyOwnCells, yes_if}
 use Rattle.layer_laws.specs.Owners.{KeptOnNo, AsksUnread, owned-if, not_owned-child_if, not_owned-if, steady-child_if, steady-owns_if, asks-child_if, open-may_hold}
 use Rattle.layer_laws.specs.Reallocations.{keeps-say, keeps-asked_to_expand, keeps-change_child, keeps-asked_to_reallocate, keeps-general_reallocate}
 use Rattle.layer_laws.specs.Requests.{keeps-asked_for, none-asked_for, none-of-some}
@@ -29,7 +29,9 @@ use Rattle.layer_laws.specs.Takings.{HasLeavesOf, TakesOwn, takes-asked_for, tak
 use Rattle.layer_laws.specs.Tests.{set-up-opens, takes-then, takes-none}
 use Rattle.layer_laws.specs.TornDown.{freed-length}
 use Rattle.layer_laws.specs.Uncounting.{same-child, same-order, same-may_hold, uncounted-child_kept, steady-own_kept}
+use Rattle.layer_laws.specs.Unranged.{regular-unranged, refused-refusing, unranged-regular}
 use Rattle.layer_laws.specs.Unreading.{told-child, unread-order, unread-may_hold, unread-with_own, unread-if_set_up}
+use Rattle.layer_laws.specs.Paths.{along-at_end, along-below, along-into_member}
 use Rattle.fallback_rules.specs.EachChild.{OfChildren, of_children-child, of_children-own, of_children-member, after-asked_for}
 use Rattle.fallback_rules.specs.OrElse.{least-alignment, full-alignment, in-first, in-rest}
 use Rattle.list_rules.specs.ListRules.{used_last, to_front, holder, list_allocate, members_allocate, change_holder, members_expand, list_deallocate, members_deallocate, list_offers, all_closed, without_open, front_or, owns_members, list_holds, list_owns_at, route_from, extent_from, is_ordered, each_settled, list_rules}
@@ -230,35 +232,35 @@ keeps-change_holder : (o : Option ℕ) (change : ℕ → Change) → ((i : ℕ) 
 keeps-change_holder None change k = keeps-say false
 keeps-change_holder (Some i) change k = keeps-change_child i (change i) (k i)
 
-keeps-members_allocate : (es : List Rules) (n : ℕ) → EachNumber RefusingLaws es → KeepsOnNone (members_allocate es n)
+keeps-members_allocate : (es : List Rules) (n : ℕ) → EachNumber RefusedLaws es → KeepsOnNone (members_allocate es n)
 keeps-members_allocate es n h =
     keeps-asked_for n (list_allocate true (λ i. (nth es i).allocate n) (λ i t. (nth es i).set_up n t))
     (keeps-list_allocate true (λ i. (nth es i).allocate n) (λ i t. (nth es i).set_up n t) (λ i. (h i).allocate n))
 
-keeps-members_expand : (es : List Rules) (delta : ℕ) → EachNumber RefusingLaws es → KeepsOnFalse (members_expand es delta)
+keeps-members_expand : (es : List Rules) (delta : ℕ) → EachNumber RefusedLaws es → KeepsOnFalse (members_expand es delta)
 keeps-members_expand es delta h =
     keeps-asked_to_expand delta (λ b s. change_holder (holder es b s) (λ i. (nth es i).expand delta) b s)
     (λ b s. keeps-change_holder (holder es b s) (λ i. (nth es i).expand delta) (λ i. (h i).expand delta) b s)
 
 -- between calls the tails of each member, open or closed, are free
-free-each : (es : List Rules) → EachNumber RefusingLaws es → (k : ℕ) (s : State) (cells : Cells) → each_settled es k s cells ≡ true → have_free_tails es k s ≡ true
+free-each : (es : List Rules) → EachNumber RefusedLaws es → (k : ℕ) (s : State) (cells : Cells) → each_settled es k s cells ≡ true → have_free_tails es k s ≡ true
 free-each [] h k s cells w = refl
 free-each (e ∷ es) h k s cells w =
     and_from _ _ ((h 0).free_tails (child s k) cells (and-fst (e.is_settled (child s k) cells) (each_settled es (suc k) s cells) w))
     (free-each es (λ i. h (suc i)) (suc k) s cells (and-snd (e.is_settled (child s k) cells) (each_settled es (suc k) s cells) w))
 
-free-when-settled : (es : List Rules) → EachNumber RefusingLaws es → EachNumber TailLaws es → (s : State) (cells : Cells) → IsSettled (list_rules es) s cells → have_free_tails es 0 s ≡ true
+free-when-settled : (es : List Rules) → EachNumber RefusedLaws es → EachNumber TailLaws es → (s : State) (cells : Cells) → IsSettled (list_rules es) s cells → have_free_tails es 0 s ≡ true
 unfolding list_rules
 free-when-settled es h v closed cells w = each-tails es closed (λ i. (v i).shut)
 free-when-settled es h v (open_with own ss) cells w = free-each es h 0 (open_with own ss) cells (and-snd (is_ordered (length es) (open_with own ss)) _ w)
 
-same-tails : (es : List Rules) → EachNumber RefusingLaws es → (k : ℕ) (s t : State) → uncounted s ≡ uncounted t → have_free_tails es k s ≡ have_free_tails es k t
+same-tails : (es : List Rules) → EachNumber RefusedLaws es → (k : ℕ) (s t : State) → uncounted s ≡ uncounted t → have_free_tails es k s ≡ have_free_tails es k t
 same-tails [] h k s t q = refl
 same-tails (e ∷ es) h k s t q = ap₂ (λ x y. x && y) ((h 0).free_tails_uncounted (child s k) (child t k) (same-child s t k q)) (same-tails es (λ i. h (suc i)) (suc k) s t q)
 
-list-refusing : (es : List Rules) → EachNumber RefusingLaws es → EachNumber TailLaws es → RefusingLaws (list_rules es)
+list-refused : (es : List Rules) → EachNumber RefusedLaws es → EachNumber TailLaws es → RefusedLaws (list_rules es)
 unfolding list_rules
-list-refusing es h v = record {
+list-refused es h v = record {
   allocate = λ n. keeps-members_allocate es n h;
   aligned_allocate = λ n a.
       keeps-asked_for n (list_allocate (nat_le (n + a) limit) (λ i. (nth es i).aligned_allocate n a) (λ i t. (nth es i).set_up (n + a) t))
@@ -267,12 +269,6 @@ list-refusing es h v = record {
   reallocate = λ n.
       keeps-asked_to_reallocate n (members_deallocate es) (general_reallocate n (list_offers es) (λ d. members_expand es d) (members_allocate es n) (members_deallocate es))
       (keeps-general_reallocate n (list_offers es) (λ d. members_expand es d) (members_allocate es n) (members_deallocate es) (λ d. keeps-members_expand es d h) (keeps-members_allocate es n h));
-  none = λ n s cells w.
-      none-asked_for n (list_allocate true (λ i. (nth es i).allocate n) (λ i t. (nth es i).set_up n t)) s cells _
-      (λ l m. none-list_allocate (HasTails es) true (λ i. (nth es i).allocate n) (λ i t. (nth es i).set_up n t) (λ i t. (nth es i).refuses n t) (refuse-by es n l h v) s cells (tails-each es s w));
-  none_aligned = λ n a s cells.
-      none-asked_for n (list_allocate (nat_le (n + a) limit) (λ i. (nth es i).aligned_allocate n a) (λ i t. (nth es i).set_up (n + a) t)) s cells _
-      (λ l m. none-list_allocate AnyState (nat_le (n + a) limit) (λ i. (nth es i).aligned_allocate n a) (λ i t. (nth es i).set_up (n + a) t) (λ i t. (nth es i).refuses_aligned n a t) (refuse-by_aligned es n a l h) s cells (λ i. tt));
   free_tails = free-when-settled es h v;
   refuses_uncounted = λ n s t cells q.
       ap (over_limit_or n) (same-list_refuses true (λ i u. (nth es i).set_up n u) (λ i u. (nth es i).refuses n u) (λ i u v c. (h i).refuses_uncounted n u v c) s t cells q);
@@ -281,6 +277,17 @@ list-refusing es h v = record {
       (same-list_refuses (nat_le (n + a) limit) (λ i u. (nth es i).set_up (n + a) u) (λ i u. (nth es i).refuses_aligned n a u) (λ i u v c. (h i).refuses_aligned_uncounted n a u v c) s t cells q);
   free_tails_uncounted = λ s t q. same-tails es h 0 s t q;
 }
+
+list-refusing : (es : List Rules) → EachNumber RefusingLaws es → EachNumber TailLaws es → RefusedLaws (list_rules es) → RefusingLaws (list_rules es)
+unfolding list_rules
+list-refusing es h v k =
+    refused-refusing (list_rules es) k
+    (λ n s cells w.
+    none-asked_for n (list_allocate true (λ i. (nth es i).allocate n) (λ i t. (nth es i).set_up n t)) s cells _
+    (λ l m. none-list_allocate (HasTails es) true (λ i. (nth es i).allocate n) (λ i t. (nth es i).set_up n t) (λ i t. (nth es i).refuses n t) (refuse-by es n l h v) s cells (tails-each es s w)))
+    (λ n a s cells.
+    none-asked_for n (list_allocate (nat_le (n + a) limit) (λ i. (nth es i).aligned_allocate n a) (λ i t. (nth es i).set_up (n + a) t)) s cells _
+    (λ l m. none-list_allocate AnyState (nat_le (n + a) limit) (λ i. (nth es i).aligned_allocate n a) (λ i t. (nth es i).set_up (n + a) t) (λ i t. (nth es i).refuses_aligned n a t) (refuse-by_aligned es n a l h) s cells (λ i. tt)))
 
 -- ---- staying open
 
@@ -407,6 +414,13 @@ steady-list owns b h (open_with (cache_own places) ss) = refl
 steady-list owns b h (open_with (stats_own counts) ss) = refl
 steady-list owns b h (open_with (row_own numbers) ss) = refl
 
+list-along : (es : List Rules) → EachNumber OwningLaws es → (path : List ℕ) (possible : Bool) (b : Block) (s : State) → list_owns_at es path possible b s ≡ yes_if possible (list_owns_at es path true b s)
+list-along es h [] possible b s = along-at_end (list_offers es).owns (list_holds es b s) possible
+list-along es h (i ∷ path) possible b s =
+    let below = λ (x : Bool). (nth es i).owns_at path x b (child s i) in
+    let fine = is_served_size b.len in
+    along-into_member es i (λ x. below (x && fine)) (along-below fine below (λ x. (h i).along path x b (child s i))) possible
+
 list-owning : (es : List Rules) → EachNumber OwningLaws es → OwningLaws (list_rules es)
 unfolding list_rules
 list-owning es h = record {
@@ -416,6 +430,7 @@ list-owning es h = record {
   open_holds = λ b s z. open-may_hold b s _ z;
   holds_uncounted = λ b s t q.
       ap₂ (λ x y. x && y) (same-may_hold b s t q) (ap (list_any (λ i. (nth es i).holds b (child s i))) (same-order s t q) ∙ any-same es h (order_of t) b s t q);
+  along = list-along es h;
 }
 
 -- ---- taking
@@ -481,13 +496,18 @@ list-taking es h =
 abbrev pub ListIsRegular : Type 0
 ListIsRegular = (members : List Rules) → EachMember IsRegular members → IsRegular (list_rules members)
 
-pub list-regular : ListIsRegular
-list-regular es m = let h = all-regular es m in record {
-  telling = list-telling es (λ i. (h i).telling);
+pub list-unranged : (es : List Rules) → EachMember UnrangedLaws es → UnrangedLaws (list_rules es)
+list-unranged es m = let h = all-unranged es m in record {
   reading = list-reading es (λ i. (h i).reading);
-  refusing = list-refusing es (λ i. (h i).refusing) (λ i. (h i).tails);
+  refused = list-refused es (λ i. (h i).refused) (λ i. (h i).tails);
   tails = list-tails es (λ i. (h i).tails);
   openness = list-openness es;
   owning = list-owning es (λ i. (h i).owning);
   taking = list-taking es (λ i. (h i).taking);
 }
+
+pub list-regular : ListIsRegular
+list-regular es m =
+    let h = all-regular es m in
+    let u = list-unranged es (λ i l. regular-unranged (nth es i) (m i l)) in
+    unranged-regular (list_rules es) u (list-telling es (λ i. (h i).telling)) (list-refusing es (λ i. (h i).refusing) (λ i. (h i).tails) u.refused)

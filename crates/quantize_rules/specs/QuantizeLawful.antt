@@ -6,11 +6,12 @@ use Rattle.size_round.specs.KindLaws.{rounded_is_enough, rounded_is_monotone}
 use Rattle.layer_rules.specs.declared.Block.{Block}
 use Rattle.layer_rules.specs.Blocks.{block, with_len, lies_in}
 use Rattle.layer_rules.specs.Rules.{Rules}
-use Rattle.layer_laws.specs.Lawful.{TellingLaws}
-use Rattle.layer_laws.specs.HandsDown.{HandsDown}
+use Rattle.layer_laws.specs.Lawful.{TellingLaws, UnrangedLaws}
+use Rattle.layer_laws.specs.HandsDown.{HandsDown, KeepsWhereRefused}
 use Rattle.layer_laws.specs.GoodSizes.{served-enough, unserved-above}
-use Rattle.layer_laws.specs.HandingLawful.{out-hand, hand-out, hand-lawful}
-use Rattle.layer_laws.specs.HandingRegular.{hand-regular}
+use Rattle.layer_laws.specs.HandingLawful.{hand-lawful}
+use Rattle.layer_laws.specs.HandingParts.{out-hand, hand-out}
+use Rattle.layer_laws.specs.HandingRegular.{hand-regular, hand-unranged}
 use Rattle.quantize_rules.specs.QuantizeRules.{quantize_handing, quantize_rules}
 use Rattle.quantize_rules.specs.QuantizeMeanings.{QuantizeIsRegular, QuantizeIsLawful, QuantizeHandsAllDown, OutOfQuantize}
 
@@ -19,6 +20,18 @@ longer-rounded kind b delta k =
     let l = rounded_is_monotone kind b.len (b.len + delta) k (omega arith) in
     let q : rounded kind (b.len + delta) ≡ rounded kind b.len + (rounded kind (b.len + delta) - rounded kind b.len) = omega arith in ap (with_len b) q
 
+-- it keeps no numbers
+quantize-keeps : (kind : RoundingKind) (e : Rules) → KeepsWhereRefused (quantize_handing kind e)
+quantize-keeps kind e = record {
+  allocated = λ n own. refl;
+  expanded = λ delta b own. refl;
+  reallocated = λ n b own. refl;
+  owned = λ own. refl;
+  owned_steady = λ own. refl;
+  owned_unread = λ own. refl;
+  admits = λ n x y q. refl;
+}
+
 pub quantize-hands : (kind : RoundingKind) (e : Rules) → is_proper_kind kind ≡ true → TellingLaws e → HandsDown (quantize_handing kind e) e
 quantize-hands kind e k t =
     record {
@@ -26,6 +39,7 @@ quantize-hands kind e k t =
       wider = λ b f. let l = rounded_is_enough kind b.len k in record { from = omega arith; upto = omega arith };
       longer = λ b delta f. record { fits = refl; down = longer-rounded kind b delta k };
       asked_some = λ n l. let m = rounded_is_enough kind n k in omega arith;
+      placed = λ a n b. refl;
       tells = record {
         enough = λ n. served-enough (rounded kind) n (rounded_is_enough kind n k);
         of_nothing = refl;
@@ -39,22 +53,23 @@ quantize-hands kind e k t =
         expanded = λ ok delta b own p a. p;
         deallocated = λ ok b own p. p;
         all_deallocated = λ own p. p;
+        reallocated = λ n b r own p. p;
+        owned = λ own p. p;
       };
-      refused = record {
-        allocated = λ n own. refl;
-        expanded = λ delta b own. refl;
-        reallocated = λ n b own. refl;
-        owned = λ own. refl;
-        owned_steady = λ own. refl;
-        owned_unread = λ own. refl;
-        admits = λ n x y q. refl;
-      };
+      refused = quantize-keeps kind e;
       round = record {
         clean = λ b old new f k z. z;
         marked = λ b old new f k z. z;
         clean_is_marked = λ b bytes z. z;
       };
+      in_place = λ b n f q. record { fits = refl; down = ap (with_len b) (let k : rounded kind n ≡ rounded kind b.len = grind (arith, nat_tests) in k) };
+      one_place = λ b c f g q. q;
     }
+
+-- whatever its rounding
+pub quantize-unranged : (kind : RoundingKind) (e : Rules) → UnrangedLaws e → UnrangedLaws (quantize_rules kind e)
+unfolding quantize_rules
+quantize-unranged kind e g = hand-unranged (quantize_handing kind e) e (quantize-keeps kind e) g
 
 pub quantize_is_regular : QuantizeIsRegular
 unfolding quantize_rules

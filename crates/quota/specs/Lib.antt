@@ -1,3 +1,4 @@
 pub mod QuotaMade
 pub mod QuotaModel
+pub mod QuotaOwning
 pub mod QuotaProper

@@ -4,7 +4,7 @@ ghost use Rattle.quota_rules.specs.QuotaRules.{quota_rules};
 ghost use Rattle.quota.specs.QuotaProper.{IsProper};
 ghost use Rattle.layer_rules.specs.Fields.{are_open};
 
-use layer_core::{Block, Fact, Layer, Offers, Refused};
+use layer_core::{Asked, Block, Fact, Layer, Offers, Owning, Path, Refused};
 use size_round::LIMIT;
 use space_core::Space;
 
@@ -115,6 +115,36 @@ impl<P: Layer> Layer for Quota<P> {
         }
     }
 
+    fn aligned_allocate(&mut self, _space: &mut Space, _n: u64, _a: u64) -> Option<Block> {
+        unreachable!()
+    }
+
+    fn expand(&mut self, space: &mut Space, b: &mut Block, delta: u64) -> bool {
+        if delta == 0 {
+            return true;
+        }
+        if delta > LIMIT - b.len {
+            return false;
+        }
+        match self.used {
+            Some(used) => {
+                if delta > self.most - used {
+                    return false;
+                }
+                if !self.parent.expand(space, b, delta) {
+                    return false;
+                }
+                self.used = Some(used + delta);
+                true
+            }
+            None => unreachable!(),
+        }
+    }
+
+    fn reallocate(&mut self, space: &mut Space, b: &mut Block, n: u64) -> bool {
+        self.reallocate_generally(space, b, n)
+    }
+
     fn deallocate(&mut self, space: &mut Space, b: Block) -> bool {
         match self.used {
             Some(used) => {
@@ -126,6 +156,39 @@ impl<P: Layer> Layer for Quota<P> {
             }
             None => unreachable!(),
         }
+    }
+
+    fn deallocate_all(&mut self, space: &mut Space) {
+        self.parent.deallocate_all(space);
+        self.used = Some(0);
+    }
+
+    fn holds(&self, b: Block) -> bool {
+        self.used.is_some() && b.len >= 1 && b.len <= LIMIT && self.parent.holds(b)
+    }
+
+    fn owns(&mut self, b: Block) -> bool {
+        if b.len == 0 || b.len > LIMIT {
+            return false;
+        }
+        self.parent.owns(b)
+    }
+
+    fn owns_at(&self, path: &Path, from: usize, b: Block) -> Asked {
+        if from < path.len() {
+            if path.at(from) > 0 {
+                return Asked::NoSuchLayer;
+            }
+            let answer = self.parent.owns_at(path, from + 1, b);
+            if matches!(answer, Asked::Yes) && (b.len == 0 || b.len > LIMIT) {
+                return Asked::No;
+            }
+            return answer;
+        }
+        if !self.parent.offers().owns {
+            return Asked::NotOffered;
+        }
+        if self.holds(b) { Asked::Yes } else { Asked::No }
     }
 
     fn extent(&self, b: Block) -> u64 {
@@ -145,5 +208,28 @@ impl<P: Layer> Layer for Quota<P> {
         }
     }
 
+    fn state_len(&self, node: u32) -> u32 {
+        if node > 0 {
+            return self.parent.state_len(node - 1);
+        }
+        if self.used.is_some() { 2 } else { 0 }
+    }
+
+    fn state_number(&self, node: u32, k: u32) -> u64 {
+        if node > 0 {
+            return self.parent.state_number(node - 1, k);
+        }
+        match self.used {
+            Some(used) => { if k == 0 { 1 } else { used } }
+            None => unreachable!(),
+        }
+    }
+
     ghost made = { λ l. quota_made P.made l };
+}
+
+impl<P: Owning> Owning for Quota<P> {
+    ghost use Rattle.quota.specs.QuotaOwning.{quota_owning};
+
+    ghost owning = { λ l. quota_owning P.owning l };
 }

@@ -1,11 +1,11 @@
 // A quota over a leaf that has room for more, by the calls that every layer has.
-ghost use Rattle.layer_core.specs.Between.{IsWaiting, IsReady};
+ghost use Rattle.layer_core.specs.Between.{IsWaiting, IsReady, IsHeld};
 ghost use Rattle.quota.specs.QuotaModel.{quota_of};
 ghost use Rattle.quota.specs.QuotaProper.{IsProper};
 
 use super::*;
-use layer_core::calls::{close, open, serve, take_back};
-use layer_core::{Fact, Layer, space_and_leaf};
+use layer_core::calls::{close, lengthen, open, serve, take_all_back, take_back};
+use layer_core::{Asked, Block, Fact, Layer, NullLayer, Path, space_and_leaf};
 use space_core::Space;
 use std::process::Abort;
 use std::test::Fail;
@@ -49,6 +49,62 @@ fn answers<L: Layer>(rt: &impl Abort, layer: &mut L, space: &mut Space) -> [[u64
     [full, back, [last.place, again.place]]
 }
 
+// Makes a block longer by `delta` bytes where the layer can.
+fn grow<L: Layer>(
+    rt: &impl Abort,
+    layer: &mut L,
+    space: &mut Space,
+    b: &mut Block,
+    delta: u64,
+) -> bool
+    requires ready { IsReady (L.model layer.old) space.old }
+    requires held { IsHeld (L.model layer.old) space.old b.old }
+    ensures ready { IsReady (L.model layer.new) space.new }
+    ensures held { IsHeld (L.model layer.new) space.new b.new }
+{
+    assert!(rt; layer.offers().expand);
+    lengthen(layer, space, b, delta)
+}
+
+// Takes all blocks back.
+fn clear<L: Layer>(rt: &impl Abort, layer: &mut L, space: &mut Space)
+    requires { IsReady (L.model layer.old) space.old }
+    ensures { IsReady (L.model layer.new) space.new }
+{
+    assert!(rt; layer.offers().all);
+    take_all_back(layer, space)
+}
+
+// What a layer of 200 bytes tells of itself when its block of 100 bytes has all of them, and when all came back.
+fn grown<L: Layer>(rt: &impl Abort, layer: &mut L, space: &mut Space) -> [[u64; 2]; 2]
+    requires { IsWaiting (L.model layer.old) space.old }
+{
+    assert!(rt; open(layer, space, 0).is_ok());
+    let mut block = serve(layer, space, 100).expect(rt, "a block");
+    assert!(rt; !grow(rt, layer, space, &mut block, 101));
+    assert!(rt; grow(rt, layer, space, &mut block, 100));
+    assert!(rt; !grow(rt, layer, space, &mut block, 1));
+    assert_eq!(rt; block.len, 200);
+    let full = told(rt, layer, space);
+    clear(rt, layer, space);
+    let back = told(rt, layer, space);
+    assert!(rt; layer.nodes() > 0);
+    assert_eq!(rt; layer.state_len(0), 2);
+    assert_eq!(rt;
+        [layer.state_number(0, 0), layer.state_number(0, 1)],
+        [1, back[0]]
+    );
+    close(layer, space);
+    [full, back]
+}
+
+// What the layer at the end of a path of one step answers of a block.
+fn asked<L: Layer>(layer: &L, step: u32, b: Block) -> Asked {
+    let mut path = Path::new();
+    path.add(step);
+    layer.owns_at(&path, 0, b)
+}
+
 #[test]
 #[tactic(auto, unfolding(leaf_rules::specs::MemRules::mem_rules))]
 fn a_quota_over_a_leaf(rt: HostRuntime) -> Result<(), Fail> {
@@ -58,5 +114,31 @@ fn a_quota_over_a_leaf(rt: HostRuntime) -> Result<(), Fail> {
         answers(&rt, &mut quota, &mut space),
         [[200, 200], [100, 200], [128, 128]]
     );
+    Ok(())
+}
+
+#[test]
+#[tactic(auto, unfolding(leaf_rules::specs::MemRules::mem_rules))]
+fn a_quota_that_is_used_up(rt: HostRuntime) -> Result<(), Fail> {
+    let (mut space, leaf) = space_and_leaf(rt.alloc(), 16)?;
+    let mut quota = quota_over(&space, 200, leaf);
+    assert_eq!(rt; grown(&rt, &mut quota, &mut space), [[200, 200], [0, 200]]);
+    Ok(())
+}
+
+// A leaf doesn't offer to say whether it owns a block, and a null layer owns none.
+#[test]
+#[tactic(auto, unfolding(leaf_rules::specs::MemRules::mem_rules, layer_rules::specs::NullRules::null_rules))]
+fn a_quota_on_a_path(rt: HostRuntime) -> Result<(), Fail> {
+    let (space, leaf) = space_and_leaf(rt.alloc(), 16)?;
+    let block = Block { place: 0, len: 64 };
+    let over_leaf = quota_over(&space, 200, leaf);
+    assert!(rt; matches!(asked(&over_leaf, 0, block), Asked::NotOffered));
+    assert!(rt; matches!(asked(&over_leaf, 1, block), Asked::NoSuchLayer));
+    let over_null = quota_over(&space, 200, NullLayer::new());
+    assert!(rt; over_null.offers().owns);
+    assert!(rt; !over_null.holds(block));
+    assert!(rt; matches!(asked(&over_null, 0, block), Asked::No));
+    assert!(rt; matches!(asked(&over_null, 1, block), Asked::NoSuchLayer));
     Ok(())
 }

@@ -6,7 +6,8 @@ use Rattle.layer_rules.specs.Rules.{Rules}
 use Rattle.layer_laws.specs.Lawful.{TellingLaws}
 use Rattle.layer_laws.specs.HandsDown.{HandsDown}
 use Rattle.layer_laws.specs.Steps.{as-long}
-use Rattle.layer_laws.specs.HandingLawful.{out-hand, hand-out, hand-opened, hand-lawful}
+use Rattle.layer_laws.specs.HandingLawful.{hand-lawful}
+use Rattle.layer_laws.specs.HandingParts.{out-hand, hand-out, hand-opened}
 use Rattle.layer_laws.specs.HandingRegular.{hand-regular}
 use Rattle.quota_rules.specs.QuotaRules.{first_number, used_in, is_within, with_used, charged, refunded, quota_handing, quota_rules}
 use Rattle.quota_rules.specs.QuotaMeanings.{QuotaIsRegular, QuotaIsLawful, OutOfQuota, QuotaCountsWithin}
@@ -51,6 +52,7 @@ quota-hands most e t =
       wider = λ b f. record { from = omega arith; upto = omega arith };
       longer = λ b delta f. record { fits = refl; down = as-long b delta };
       asked_some = λ n l. l;
+      placed = λ a. absurd (cc);
       tells = record {
         enough = t.enough;
         of_nothing = t.of_nothing;
@@ -64,6 +66,8 @@ quota-hands most e t =
         expanded = λ ok delta b. charged-within most ok delta;
         deallocated = λ ok b. refunded-within most ok b.len;
         all_deallocated = none-within most;
+        reallocated = λ n b r own p. p;
+        owned = λ own p. p;
       };
       refused = record {
         allocated = λ n own. ap without_counts (charged-same n own);
@@ -79,6 +83,8 @@ quota-hands most e t =
         marked = λ b old new f k z. z;
         clean_is_marked = λ b bytes z. z;
       };
+      in_place = λ b n f q. absurd (cc);
+      one_place = λ b c f g q. q;
     }
 
 pub quota_is_regular : QuotaIsRegular

@@ -96,7 +96,7 @@ pub below-at : (size align : ℕ) (o : Option Bump) (b : Bump) (t : LayerModel) 
 below-at size align o b t m c q h = below size align b t m c (subst (λ (z : Option Bump). IsOutOf (region_model size align z t) m c) q h)
 
 -- where the chunk has no room the rule refuses
-region-full : (p size n : ℕ) (s : State) (cells : Cells) → nat_le (p + size) (end_of (chunk_of s)) ≡ false → region_allocate p size n s cells ≡ refuse s cells
+pub region-full : (p size n : ℕ) (s : State) (cells : Cells) → nat_le (p + size) (end_of (chunk_of s)) ≡ false → region_allocate p size n s cells ≡ refuse s cells
 region-full p size n s cells q = rw (q, region_allocate) refl
 
 no-room : (size align n : ℕ) (b : Bump) (t : LayerModel) (m : Memory) → end_of b.chunk < b.position + up n align

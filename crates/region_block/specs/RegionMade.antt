@@ -1,5 +1,5 @@
 -- What holds of every layer that is made holds of a region over such a parent.
-use Rattle.std.proofs.Common.{ℕ}
+use Rattle.std.proofs.Common.{◌≡◌, refl, ℕ, true}
 use Rattle.size_round.specs.PowerLaws.{powers_pass}
 use Rattle.layer_rules.specs.Rules.{Rules, HasSomeTags}
 use Rattle.region_rules.specs.RegionRules.{region_rules}
@@ -8,6 +8,7 @@ use Rattle.region_rules.specs.RegionRegular.{region_is_regular}
 use Rattle.region_rules.specs.RegionLawful.{region_is_lawful}
 use Rattle.layer_laws.specs.Lawful.{IsMade}
 use Rattle.layer_laws.specs.Steps.{one-more}
+use Rattle.layer_rules.specs.Layering.{LayerModel}
 use Rattle.layer_core.specs.declared.Layer.{Ghosts}
 use Rattle.region_block.specs.declared.bump.Region.{Region}
 use Rattle.region_block.specs.RegionProper.{IsProper}
@@ -29,3 +30,8 @@ rules_made size align e p l =
 
 pub region_made : {P : Type 0} {G : Ghosts P} → ((p : P) → IsMade (G.model p).rules) → (l : Region P G) → IsMade (region_of G.model l).rules
 region_made made l = rules_made l.size l.align _ l.proper (made l.parent)
+
+-- a region offers `owns`
+pub region_owns : {P : Type 0} {G : Ghosts P} → (model : P → LayerModel) (l : Region P G) → (region_of model l).rules.offers.owns ≡ true
+unfolding region_rules
+region_owns model l = refl

@@ -5,7 +5,7 @@ ghost use Rattle.region_block.specs.RegionProper.{IsProper};
 ghost use Rattle.layer_rules.specs.Fields.{are_open};
 
 use crate::parent_need;
-use layer_core::{Block, Fact, Layer, Offers, Refused};
+use layer_core::{Asked, Block, Fact, Layer, Offers, Owning, Path, Refused};
 use size_round::{LIMIT, up};
 use space_core::Space;
 
@@ -142,6 +142,57 @@ impl<P: Layer> Layer for Region<P> {
         }
     }
 
+    fn aligned_allocate(&mut self, _space: &mut Space, n: u64, a: u64) -> Option<Block> {
+        if n == 0 || n > LIMIT {
+            return None;
+        }
+        match self.bump {
+            Some(bump) => {
+                let place = up(bump.position, a.max(self.align));
+                let taken = up(n, self.align);
+                if place + taken > bump.chunk.place + bump.chunk.len {
+                    return None;
+                }
+                self.bump = Some(Bump {
+                    chunk: bump.chunk,
+                    position: place + taken,
+                });
+                Some(Block { place, len: n })
+            }
+            None => unreachable!(),
+        }
+    }
+
+    fn expand(&mut self, _space: &mut Space, b: &mut Block, delta: u64) -> bool {
+        if delta == 0 {
+            return true;
+        }
+        if delta > LIMIT - b.len {
+            return false;
+        }
+        match self.bump {
+            Some(bump) => {
+                let position = b.place + up(b.len + delta, self.align);
+                if position > bump.chunk.place + bump.chunk.len
+                    || b.place + up(b.len, self.align) != bump.position
+                {
+                    return false;
+                }
+                self.bump = Some(Bump {
+                    chunk: bump.chunk,
+                    position,
+                });
+                b.len += delta;
+                true
+            }
+            None => unreachable!(),
+        }
+    }
+
+    fn reallocate(&mut self, space: &mut Space, b: &mut Block, n: u64) -> bool {
+        self.reallocate_generally(space, b, n)
+    }
+
     fn deallocate(&mut self, _space: &mut Space, b: Block) -> bool {
         match self.bump {
             Some(bump) => {
@@ -156,6 +207,46 @@ impl<P: Layer> Layer for Region<P> {
             }
             None => unreachable!(),
         }
+    }
+
+    fn deallocate_all(&mut self, _space: &mut Space) {
+        match self.bump {
+            Some(bump) => {
+                self.bump = Some(Bump {
+                    chunk: bump.chunk,
+                    position: bump.chunk.place,
+                });
+            }
+            None => unreachable!(),
+        }
+    }
+
+    fn holds(&self, b: Block) -> bool {
+        match self.bump {
+            Some(bump) => {
+                // Written so that no sum can be too large, whatever block is asked for.
+                b.len >= 1
+                    && b.len <= LIMIT
+                    && bump.chunk.place <= b.place
+                    && b.len <= bump.chunk.len
+                    && b.place - bump.chunk.place <= bump.chunk.len - b.len
+            }
+            None => false,
+        }
+    }
+
+    fn owns(&mut self, b: Block) -> bool {
+        self.holds(b)
+    }
+
+    fn owns_at(&self, path: &Path, from: usize, b: Block) -> Asked {
+        if from < path.len() {
+            if path.at(from) == 0 {
+                return Asked::NotServing;
+            }
+            return Asked::NoSuchLayer;
+        }
+        if self.holds(b) { Asked::Yes } else { Asked::No }
     }
 
     fn extent(&self, b: Block) -> u64 {
@@ -174,5 +265,33 @@ impl<P: Layer> Layer for Region<P> {
         }
     }
 
+    fn state_len(&self, node: u32) -> u32 {
+        if node > 0 {
+            return self.parent.state_len(node - 1);
+        }
+        if self.bump.is_some() { 4 } else { 0 }
+    }
+
+    fn state_number(&self, node: u32, k: u32) -> u64 {
+        if node > 0 {
+            return self.parent.state_number(node - 1, k);
+        }
+        match self.bump {
+            Some(bump) => match k {
+                0 => 1,
+                1 => bump.chunk.place,
+                2 => bump.chunk.len,
+                _ => bump.position,
+            },
+            None => unreachable!(),
+        }
+    }
+
     ghost made = { λ l. region_made P.made l };
+}
+
+impl<P: Layer> Owning for Region<P> {
+    ghost use Rattle.region_block.specs.RegionMade.{region_owns};
+
+    ghost owning = { λ l. region_owns P.model l };
 }

@@ -2,10 +2,10 @@
 use Rattle.std.proofs.Common.{◌≡◌, refl, sym, ap, subst, ◌∙◌, ℕ, ◌≤◌, ◌+◌, ◌-◌, ◌*◌, ◌/◌, ◌%◌, ◌⊎◌, inl, inr, Bool, true, false, ◌&&◌, arith, [], length, Option, Some, nat_le, nat_eq, max}
 use Rattle.std.proofs.lemmas.Bool.{and_from}
 use Rattle.std.proofs.lemmas.Bool.Decides.{nat_tests}
-use Rattle.std.proofs.Math.Nat.{zero-mod, add-mul, add-mul-mod_self_right}
+use Rattle.std.proofs.Math.Nat.{zero-mod, add-mul-mod_self_right}
 use Rattle.std.proofs.lemmas.Nat.{div-mul-add}
 use Rattle.size_round.specs.Sizes.{limit, up, ceil_div}
-use Rattle.size_round.specs.SizeMeanings.{IsMultiple}
+use Rattle.size_round.specs.SizeMeanings.{IsMultiple, IsPower}
 use Rattle.size_round.specs.UpLeast.{enough_times, up_is_least}
 use Rattle.size_round.specs.PowerLaws.{power_is_some}
 use Rattle.space_core.specs.Cells.{Cells}
@@ -13,21 +13,25 @@ use Rattle.space_core.specs.Memory.{most_cells}
 use Rattle.layer_rules.specs.declared.Block.{Block}
 use Rattle.layer_rules.specs.Blocks.{block, end_of, is_apart, with_len}
 use Rattle.layer_rules.specs.Fields.{closed_fields, open_fields, kept_chunk, kept_position, nth_fields}
-use Rattle.layer_rules.specs.State.{State, Own, region_own, open_with, one_child, is_open, own_of, child, chunk_of, position_of, chunk_in, position_in}
+use Rattle.layer_rules.specs.State.{State, Own, region_own, open_with, one_child, is_open, own_of, with_own, child, chunk_of, position_of, chunk_in, position_in, States}
 use Rattle.layer_rules.specs.After.{After, after, placed, Placed, refuse}
+use Rattle.layer_rules.specs.Offering.{all_offers}
 use Rattle.layer_rules.specs.Owning.{is_plausible}
 use Rattle.layer_rules.specs.Rules.{Rules, IsSettled, AreApart, HasSomeTags}
 use Rattle.layer_rules.specs.Setting.{need_of, chunk_given}
 use Rattle.layer_rules.specs.Testing.{is_over}
-use Rattle.region_rules.specs.RegionRules.{region_chunk, region_opened, region_expand, is_region_own, is_region, region_settled, region_rules}
+use Rattle.region_rules.specs.RegionRules.{region_chunk, region_opened, region_allocate, region_next, region_expand, is_region_own, is_region, region_settled, region_rules}
 use Rattle.region_rules.specs.RegionMeanings.{IsRegionSize, IsRegion, RegionParts, IsOutRegion, OutOfRegion, OpenRegionIsSound, RegionIsLawful}
 use Rattle.layer_laws.specs.Basics.{and-fst, and-snd}
 use Rattle.layer_laws.specs.BlockLaws.{inside-of}
-use Rattle.layer_laws.specs.CellRooms.{multiple_of_multiple, power_in_power, multiple_from_rest}
+use Rattle.layer_laws.specs.CellRooms.{multiple_of_multiple, power_in_power, multiple_from_rest, rest_of_multiple}
+use Rattle.layer_laws.specs.Multiples.{multiple-sum, multiple-difference, divide-max}
 use Rattle.layer_laws.specs.Tables.{tag-in_range}
+use Rattle.layer_laws.specs.Reallocated.{generally-reallocated}
+use Rattle.layer_laws.specs.Takings.{TakesOwn, takes-asked_for}
 use Rattle.layer_laws.specs.Tests.{opened, settle, over-parts, some-byte, some-open, settled-moved, takes-none}
-use Rattle.layer_laws.specs.Steps.{refuse-good, asked-good, kept-short, asked-grown, unchanged, within-ok, then-ok, chunk-ok, inside-wider}
-use Rattle.layer_laws.specs.Lawful.{IsRegular, IsGood, Good, IsFreed, Freeing, IsGrown, Growing, IsEmptied, Emptying, Covering, Covers, Routing, Aligning, OutTags, SettledTags, TagsKept, Opens, OwnFraming, Framing, KeepingLaws, PlacingLaws, FramingLaws, OpeningLaws, OpennessLaws}
+use Rattle.layer_laws.specs.Steps.{refuse-good, asked-good, kept-short, asked-grown, unchanged, within-ok, then-ok, chunk-ok, inside-wider, asked-aligned, same-told}
+use Rattle.layer_laws.specs.Lawful.{IsRegular, OnlyOwnCells, IsGood, Good, IsFreed, Freeing, IsGrown, Growing, IsEmptied, Emptying, Covering, Covers, Routing, Aligning, OutTags, SettledTags, TagsKept, Opens, OwnFraming, Framing, KeepingLaws, PlacingLaws, FramingLaws, OpeningLaws, OpennessLaws, IsAlignedGood, AtMultiple, AlignedGood}
 
 -- ---- what the tests say
 
@@ -74,6 +78,22 @@ region-out size align e b s cells o = grind (arith, nat_tests, o.is_set, o.some,
 
 -- ---- a request
 
+-- what a request leaves where its size lies in the chunk, or not
+abbrev pub Served : (p size n : ℕ) → State → Cells → Bool → After (Option Placed)
+Served p size n s cells fits =
+    elim fits [
+      | true ↦ after (Some (placed (block p n) [])) (with_own s (region_own (chunk_of s) (p + size))) cells
+      | false ↦ refuse s cells
+    ]
+
+-- it takes no cell
+case-takes : (e : Rules) (p size n : ℕ) (s : State) (cells : Cells) (q : Bool) → OnlyOwnCells e cells (Served p size n s cells q).cells
+case-takes e p size n s cells true = takes-none e cells
+case-takes e p size n s cells false = takes-none e cells
+
+pub allocate-takes : (e : Rules) (p : State → ℕ) (size n : ℕ) → TakesOwn e (λ s. region_allocate (p s) size n s)
+allocate-takes e p size n s cells = case-takes e (p s) size n s cells (nat_le (p s + size) (end_of (chunk_of s)))
+
 -- a rounded length does not change what is left over
 pub add_up-mod : (x n a : ℕ) → (x + up n a) % a ≡ x % a
 add_up-mod x n a = add-mul-mod_self_right x (ceil_div n a) a
@@ -90,31 +110,39 @@ region_served_sound size align n position chunk some h room = record {
       ∙ add_up-mod (position - chunk.place) n align ∙ h.aligned;
 }
 
-region-serves : (size align : ℕ) (e : Rules) (n : ℕ) (chunk : Block) (p : ℕ) (t : State) (cells : Cells) → 1 ≤ align → 1 ≤ n
-    → RegionParts size align e (open_with (region_own chunk p) (one_child t)) cells → p + up n align ≤ end_of chunk
-    → IsGood (region_rules size align e) (open_with (region_own chunk p) (one_child t)) cells n (after (Some (placed (block p n) [])) (open_with (region_own chunk (p + up n align)) (one_child t)) cells)
+-- the place q, from the position p on and a multiple of the alignment from the chunk's start
+record IsServedAt (align : ℕ) (chunk : Block) (p q : ℕ) : Type 0 where
+  pub behind : p ≤ q
+  pub aligned : (q - chunk.place) % align ≡ 0
+
+region-serves : (size align : ℕ) (e : Rules) (n : ℕ) (chunk : Block) (p q : ℕ) (t : State) (cells : Cells) → 1 ≤ align → 1 ≤ n
+    → RegionParts size align e (open_with (region_own chunk p) (one_child t)) cells → IsServedAt align chunk p q → q + up n align ≤ end_of chunk
+    → IsGood (region_rules size align e) (open_with (region_own chunk p) (one_child t)) cells n (after (Some (placed (block q n) [])) (open_with (region_own chunk (q + up n align)) (one_child t)) cells)
 unfolding region_rules
-region-serves size align e n chunk p t cells w l h r =
+region-serves size align e n chunk p q t cells w l h v r =
     let old = open_with (region_own chunk p) (one_child t) in
-    let new = open_with (region_own chunk (p + up n align)) (one_child t) in
+    let new = open_with (region_own chunk (q + up n align)) (one_child t) in
     let g = enough_times n align w in
+    let from : chunk.place ≤ q = omega (arith, h.region.start, v.behind) in
+    let at_q : IsRegion size align chunk q = record { len = h.region.len; start = from; stop = omega arith; aligned = v.aligned } in
     record {
       is_set = refl;
-      settled = region-whole size align e chunk (p + up n align) t cells h.parent (region_served_sound size align n p chunk w h.region r) h.out h.bound h.below;
+      settled = region-whole size align e chunk (q + up n align) t cells h.parent (region_served_sound size align n q chunk w at_q r) h.out h.bound h.below;
       extents = λ b. refl;
-      stays = λ b o. let x = out-region size align e b old cells o in region-out size align e b new cells (record { is_set = refl; some = x.some; from = x.from; aligned = x.aligned; upto = omega (arith, x.upto) });
-      len = λ q z. let y : placed (block p n) [] ≡ q = cc in sym (ap (λ (q : Placed). q.block.len) y);
-      out = λ q z. let y : placed (block p n) [] ≡ q = cc in subst (λ (q : Placed). (region_rules size align e).is_out q.block new cells ≡ true) y
-          (region-out size align e (block p n) new cells (record { is_set = refl; some = l; from = h.region.start; aligned = h.region.aligned; upto = omega arith }));
-      fresh = λ q z b o. let y : placed (block p n) [] ≡ q = cc in subst (λ (q : Placed). AreApart (region_rules size align e) old q.block b) y
-          (let x = out-region size align e b old cells o in let u = x.upto in record { either = grind (arith, nat_tests) });
+      routes = λ b x. refl;
+      stays = λ b o. let x = out-region size align e b old cells o in region-out size align e b new cells (record { is_set = refl; some = x.some; from = x.from; aligned = x.aligned; upto = omega (arith, x.upto, v.behind) });
+      len = λ k z. let y : placed (block q n) [] ≡ k = cc in sym (ap (λ (k : Placed). k.block.len) y);
+      out = λ k z. let y : placed (block q n) [] ≡ k = cc in subst (λ (k : Placed). (region_rules size align e).is_out k.block new cells ≡ true) y
+          (region-out size align e (block q n) new cells (record { is_set = refl; some = l; from = from; aligned = v.aligned; upto = omega arith }));
+      fresh = λ k z b o. let y : placed (block q n) [] ≡ k = cc in subst (λ (k : Placed). AreApart (region_rules size align e) old k.block b) y
+          (let x = out-region size align e b old cells o in let u = x.upto in let m = v.behind in record { either = grind (arith, nat_tests) });
     }
 
-region-asked : (size align : ℕ) (e : Rules) (n : ℕ) (chunk : Block) (p : ℕ) (t : State) (cells : Cells) (b : Bool) → nat_le (p + up n align) (end_of chunk) ≡ b → 1 ≤ align → 1 ≤ n
-    → RegionParts size align e (open_with (region_own chunk p) (one_child t)) cells → IsSettled (region_rules size align e) (open_with (region_own chunk p) (one_child t)) cells
-    → IsGood (region_rules size align e) (open_with (region_own chunk p) (one_child t)) cells n (elim b as (λ _. After (Option Placed)) [ true ↦ after (Some (placed (block p n) [])) (open_with (region_own chunk (p + up n align)) (one_child t)) cells | false ↦ refuse (open_with (region_own chunk p) (one_child t)) cells ])
-region-asked size align e n chunk p t cells true q w l h k = region-serves size align e n chunk p t cells w l h (grind (arith, nat_tests))
-region-asked size align e n chunk p t cells false q w l h k = refuse-good (region_rules size align e) n (open_with (region_own chunk p) (one_child t)) cells refl k
+region-asked : (size align : ℕ) (e : Rules) (n : ℕ) (chunk : Block) (p q : ℕ) (t : State) (cells : Cells) (b : Bool) → nat_le (q + up n align) (end_of chunk) ≡ b → 1 ≤ align → 1 ≤ n
+    → RegionParts size align e (open_with (region_own chunk p) (one_child t)) cells → IsSettled (region_rules size align e) (open_with (region_own chunk p) (one_child t)) cells → IsServedAt align chunk p q
+    → IsGood (region_rules size align e) (open_with (region_own chunk p) (one_child t)) cells n (elim b as (λ _. After (Option Placed)) [ true ↦ after (Some (placed (block q n) [])) (open_with (region_own chunk (q + up n align)) (one_child t)) cells | false ↦ refuse (open_with (region_own chunk p) (one_child t)) cells ])
+region-asked size align e n chunk p q t cells true z w l h k v = region-serves size align e n chunk p q t cells w l h v (grind (arith, nat_tests))
+region-asked size align e n chunk p q t cells false z w l h k v = refuse-good (region_rules size align e) n (open_with (region_own chunk p) (one_child t)) cells refl k
 
 -- an open region's parts
 pub region-opened : (size align : ℕ) (e : Rules) (s : State) (cells : Cells) → is_open s ≡ true → IsSettled (region_rules size align e) s cells → RegionParts size align e s cells
@@ -127,7 +155,43 @@ region-good size align e w n s cells o h =
     let f = region_rules size align e in
     let x = region-opened size align e s cells o h in
     subst (λ s. is_open s ≡ true → IsSettled f s cells → RegionParts size align e s cells → IsGood f s cells n (f.allocate n s cells)) (sym x.form)
-    (λ o h x. asked-good f n _ _ cells o h (λ l m. region-asked size align e n (chunk_of s) (position_of s) (child s 0) cells _ refl w l x h)) o h x
+    (λ o h x. asked-good f n _ _ cells o h (λ l m. region-asked size align e n (chunk_of s) (position_of s) (position_of s) (child s 0) cells _ refl w l x h (record { behind = omega arith; aligned = x.region.aligned }))) o h x
+
+-- ---- a request at an alignment
+
+-- the chunk's place is a multiple of the region's alignment
+chunk-aligned : (size align : ℕ) (e : Rules) (s : State) (cells : Cells) → IsRegionSize size align e → IsRegular e → Aligning e → RegionParts size align e s cells → IsMultiple (chunk_of s).place align
+chunk-aligned size align e s cells w p law r =
+    multiple_of_multiple (chunk_of s).place e.alignment align (law (chunk_of s) (child s 0) cells r.below r.out) (power_in_power align e.alignment w.power p.telling.aligned.power w.align_below)
+
+-- the next multiple of both alignments
+next-served : (align a p : ℕ) (chunk : Block) → IsPower align → IsPower a → IsMultiple chunk.place align → IsServedAt align chunk p (up p (max a align)) × IsMultiple (up p (max a align)) a
+next-served align a p chunk u v k =
+    let some = power_is_some align u in
+    let next = up_is_least p (max a align) (omega arith) in
+    let both = divide-max a align v u in
+    let q = up p (max a align) in (
+      record { behind = next.enough; aligned = rest_of_multiple (q - chunk.place) align (multiple-difference q chunk.place align (multiple_of_multiple q (max a align) align next.has both.1) k) },
+      multiple_of_multiple q (max a align) a next.has both.0,
+    )
+
+region-at_multiple : (n a q : ℕ) (own : Own) (s : State) (ss : States) (cells : Cells) (b : Bool) → IsMultiple q a
+    → AtMultiple a (elim b as (λ _. After (Option Placed)) [ true ↦ after (Some (placed (block q n) [])) (open_with own ss) cells | false ↦ refuse s cells ]).answer
+region-at_multiple n a q own s ss cells true m p z = let y : placed (block q n) [] ≡ p = cc in subst (λ (p : Placed). IsMultiple p.block.place a) y m
+region-at_multiple n a q own s ss cells false m p z = absurd (cc)
+
+region-aligned_good : (size align : ℕ) (e : Rules) → IsRegionSize size align e → IsRegular e → Aligning e → AlignedGood (region_rules size align e)
+unfolding region_rules
+region-aligned_good size align e w p law n a s cells k _ o h =
+    let f = region_rules size align e in
+    let x = region-opened size align e s cells o h in
+    let some = power_is_some align w.power in
+    let v = next-served align a (position_of s) (chunk_of s) w.power k (chunk-aligned size align e s cells w p law x) in
+    subst (λ s. is_open s ≡ true → IsSettled f s cells → RegionParts size align e s cells → IsAlignedGood f s cells n a (f.aligned_allocate n a s cells)) (sym x.form)
+    (λ o h x. asked-aligned f n a _ _ cells o h (λ l m. record {
+      good = region-asked size align e n (chunk_of s) (position_of s) (up (position_of s) (max a align)) (child s 0) cells _ refl some l x h v.0;
+      aligned = region-at_multiple n a (up (position_of s) (max a align)) _ _ _ cells _ v.1;
+    })) o h x
 
 -- ---- a block is given back
 
@@ -145,6 +209,7 @@ region-given size align e chunk p t cells b true q w h k x =
       is_set = refl;
       settled = region-whole size align e chunk b.place t cells h.parent (record { len = h.region.len; start = x.from; stop = omega (arith, x.upto, h.region.stop); aligned = x.aligned }) h.out h.bound h.below;
       extents = λ c. refl;
+      routes = λ c p a. refl;
       stays = λ c o a.
           let y = out-region size align e c old cells o in
           let k = enough_times c.len align w in
@@ -200,6 +265,7 @@ region-grows size align e chunk p t cells b delta true q w h k x =
         aligned = ap (λ k. k % align) (let d : last - chunk.place ≡ b.place - chunk.place + up m align = omega (arith, y.from) in d) ∙ add_up-mod (b.place - chunk.place) m align ∙ y.aligned;
       }) h.out h.bound h.below;
       extents = λ c. refl;
+      routes = λ c p a. refl;
       stays = λ c o a. let z = out-region size align e c old cells o in region-out size align e c new cells (record { is_set = refl; some = z.some; from = z.from; aligned = z.aligned; upto = omega (arith, z.upto) });
       out = region-out size align e (with_len b m) new cells (record { is_set = refl; some = omega (arith, y.some); from = y.from; aligned = y.aligned; upto = omega arith });
       fresh = λ c o a.
@@ -280,19 +346,14 @@ region-routed size align e w t law b s cells m h o =
     let k = in-space e (chunk_of s) (child s 0) cells t c in
     and_from _ _ (plausible b x.some (omega (arith, x.upto, r.region.stop))) (inside-of b (chunk_of s) x.from (omega (arith, x.upto, r.region.stop)))
 
-multiple-add : (m n a : ℕ) → IsMultiple m a → IsMultiple n a → IsMultiple (m + n) a
-multiple-add m n a (k, e) (l, f) = (k + l, rw (e, f, add-mul) refl)
-
 region-aligned : (size align : ℕ) (e : Rules) → IsRegionSize size align e → IsRegular e → Aligning e → Aligning (region_rules size align e)
 unfolding region_rules
 region-aligned size align e w p law b s cells h o =
     let x = out-region size align e b s cells o in
     let r = region-opened size align e s cells x.is_set h in
     let c = chunk_of s in
-    let d = power_in_power align e.alignment w.power p.telling.aligned.power w.align_below in
-    let k = multiple_of_multiple c.place e.alignment align (law c (child s 0) cells r.below r.out) d in
     let q : c.place + (b.place - c.place) ≡ b.place = omega (arith, x.from) in
-    subst (λ n. IsMultiple n align) q (multiple-add c.place (b.place - c.place) align k (multiple_from_rest (b.place - c.place) align x.aligned))
+    subst (λ n. IsMultiple n align) q (multiple-sum c.place (b.place - c.place) align (chunk-aligned size align e s cells w p law r) (multiple_from_rest (b.place - c.place) align x.aligned))
 
 pub region-out_tags : (size align : ℕ) (e : Rules) → OutTags (region_rules size align e)
 unfolding region_rules
@@ -383,9 +444,24 @@ region-framed size align e w law (open_fields kept fss) old new cells b h i o k 
 
 -- ---- the families
 
-pub region-keeping : (size align : ℕ) (e : Rules) → 1 ≤ align → KeepingLaws (region_rules size align e)
+pub region-keeping : (size align : ℕ) (e : Rules) → IsRegionSize size align e → IsRegular e → PlacingLaws e → KeepingLaws (region_rules size align e)
 unfolding region_rules
-region-keeping size align e w = record { out_some = λ b s cells o. some-byte _ _ b.len o; out_open = λ b s cells o. some-open (is_open s) _ _ o; good = region-good size align e w; freed = region-freed size align e w; grown = region-grown size align e w; emptied = region-emptied size align e w }
+region-keeping size align e w r p =
+    let f = region_rules size align e in
+    let x = power_is_some align w.power in
+    let some = λ (b : Block) (s : State) (cells : Cells) (o : f.is_out b s cells ≡ true). some-byte _ _ b.len o in
+    let takes = λ (n : ℕ). takes-asked_for f n (region_next align n) (allocate-takes f position_of (up n align) n) in
+    record {
+      out_some = some;
+      out_open = λ b s cells o. some-open (is_open s) _ _ o;
+      good = region-good size align e x;
+      freed = region-freed size align e x;
+      grown = region-grown size align e x;
+      emptied = region-emptied size align e x;
+      reallocated = generally-reallocated f all_offers (record { some = some; takes = takes; good = region-good size align e x; freed = region-freed size align e x; grown = region-grown size align e x });
+      aligned = region-aligned_good size align e w r p.aligned;
+      owned = λ b s cells h. same-told (region_rules size align e) s cells h;
+    }
 
 pub region-placing : (size align : ℕ) (e : Rules) → IsRegionSize size align e → HasSomeTags e → IsRegular e → PlacingLaws e → PlacingLaws (region_rules size align e)
 region-placing size align e w t r p =
@@ -410,7 +486,7 @@ pub region_is_lawful : RegionIsLawful
 region_is_lawful size align e w t r p =
     let some = power_is_some align w.power in
     record {
-      keeping = region-keeping size align e some;
+      keeping = region-keeping size align e w r p.placing;
       placing = region-placing size align e w t r p.placing;
       framing = region-framing size align e some p.framing;
       opening = region-opening size align e some r.openness p.keeping p.opening;

@@ -1,13 +1,13 @@
 -- A region is regular over a regular parent.
-use Rattle.std.proofs.Common.{◌≡◌, refl, sym, ap, subst, ℕ, suc, ◌+◌, Bool, true, false, not, max, arith, List, [], ◌∷◌, Option, Some, length, nat_eq, nat_le, nat_lt}
+use Rattle.std.proofs.Common.{◌≡◌, refl, sym, ap, subst, ℕ, suc, ◌+◌, Bool, true, false, not, max, arith, List, [], ◌∷◌, length, nat_eq, nat_le, nat_lt}
 use Rattle.size_round.specs.Sizes.{limit, up}
 use Rattle.size_round.specs.UpLeast.{enough_times}
 use Rattle.size_round.specs.PowerLaws.{power_is_some}
 use Rattle.space_core.specs.Cells.{Cells}
 use Rattle.layer_rules.specs.declared.Block.{Block}
-use Rattle.layer_rules.specs.After.{After, after, placed, Placed, refuse, Opened}
+use Rattle.layer_rules.specs.After.{After, after, Opened}
 use Rattle.layer_rules.specs.Allocating.{asked_for, served_unless}
-use Rattle.layer_rules.specs.Blocks.{block, end_of, lies_in}
+use Rattle.layer_rules.specs.Blocks.{end_of, lies_in}
 use Rattle.layer_rules.specs.Expanding.{asked_to_expand}
 use Rattle.layer_rules.specs.Fields.{kept_chunk, kept_position, kept_of, child_fields}
 use Rattle.layer_rules.specs.Offering.{all_offers}
@@ -17,18 +17,20 @@ use Rattle.layer_rules.specs.State.{State, closed, open_with, Own, region_own, i
 use Rattle.layer_rules.specs.Unread.{unread}
 use Rattle.region_rules.specs.RegionRules.{region_chunk, region_opened, region_allocate, region_next, region_aligned, is_last, region_expand, region_deallocate, region_is_full, region_holds, region_owns_at, region_rules}
 use Rattle.region_rules.specs.RegionMeanings.{IsRegionSize, RegionIsRegular}
-use Rattle.region_rules.specs.RegionLawful.{region-opened}
+use Rattle.region_rules.specs.RegionLawful.{Served, allocate-takes, region-opened}
 use Rattle.layer_laws.specs.GoodSizes.{served-enough, unserved-zero, unserved-above, power-alignment}
-use Rattle.layer_laws.specs.Lawful.{IsRegular, TellingLaws, ReadingLaws, RefusingLaws, TailLaws, OpennessLaws, OwningLaws, TakingLaws, KeptOnNone, KeepsOnNone, KeptOnFalse, KeepsOnFalse, OnlyOwnCells}
+use Rattle.layer_laws.specs.Lawful.{TellingLaws, ReadingLaws, RefusingLaws, TailLaws, OpennessLaws, OwningLaws, TakingLaws, KeptOnNone, KeepsOnNone, KeptOnFalse, KeepsOnFalse, RefusedLaws, UnrangedLaws, yes_if}
 use Rattle.layer_laws.specs.Owners.{held-same, open-may_hold}
 use Rattle.layer_laws.specs.Reallocations.{keeps-asked_to_expand, keeps-asked_to_reallocate, keeps-general_reallocate}
 use Rattle.layer_laws.specs.Requests.{keeps-asked_for, is_refusal, none-asked_for}
 use Rattle.layer_laws.specs.StayingOpen.{StaysOpen, StaysOpenBy, open-own, stays-asked_for, stays-asked_to_expand, stays-asked_to_reallocate, stays-general_reallocate, sets-chunk}
 use Rattle.layer_laws.specs.Steps.{within-ok, then-ok, chunk-ok, chunk-refuses}
-use Rattle.layer_laws.specs.Takings.{TakesOwn, takes-asked_for, took-chunk, took-wider}
-use Rattle.layer_laws.specs.Tests.{set-up-opens, takes-none}
+use Rattle.layer_laws.specs.Takings.{takes-asked_for, took-chunk, took-wider}
+use Rattle.layer_laws.specs.Tests.{set-up-opens}
 use Rattle.layer_laws.specs.Uncounting.{same-chunk, same-position, same-child}
+use Rattle.layer_laws.specs.Unranged.{regular-unranged, refused-refusing, unranged-regular}
 use Rattle.layer_laws.specs.Unreading.{unread-open, unread-chunk, unread-over_parent}
+use Rattle.layer_laws.specs.Paths.{along-at_chunk}
 
 -- ---- telling and reading
 
@@ -65,14 +67,6 @@ region-reading size align e p = record {
 
 -- ---- refusing
 
--- what a request leaves where its size lies in the chunk, or not
-abbrev Served : (p size n : ℕ) → State → Cells → Bool → After (Option Placed)
-Served p size n s cells fits =
-    elim fits [
-      | true ↦ after (Some (placed (block p n) [])) (with_own s (region_own (chunk_of s) (p + size))) cells
-      | false ↦ refuse s cells
-    ]
-
 -- what a call on the last block leaves, where it may be done
 abbrev Moved : (p : ℕ) → State → Cells → Bool → After Bool
 Moved p s cells done = elim done [ true ↦ after true (with_own s (region_own (chunk_of s) p)) cells | false ↦ after false s cells ]
@@ -102,13 +96,13 @@ expand-keeps align delta b s cells = case-shut (b.place + up (b.len + delta) ali
 full-same : (p size : ℕ) (s t : State) → chunk_of s ≡ chunk_of t → region_is_full p size s ≡ region_is_full p size t
 full-same p size s t e = ap (λ (c : Block). not (nat_le (p + size) (end_of c))) e
 
-free-below : (size align : ℕ) (e : Rules) → IsRegular e → (s : State) (cells : Cells) → IsSettled (region_rules size align e) s cells → e.has_free_tails (child s 0) ≡ true
-free-below size align e p closed cells h = p.tails.shut
-free-below size align e p (open_with own ss) cells h = p.refusing.free_tails (child (open_with own ss) 0) cells (region-opened size align e (open_with own ss) cells refl h).below
+free-below : (size align : ℕ) (e : Rules) → TailLaws e → RefusedLaws e → (s : State) (cells : Cells) → IsSettled (region_rules size align e) s cells → e.has_free_tails (child s 0) ≡ true
+free-below size align e t p closed cells h = t.shut
+free-below size align e t p (open_with own ss) cells h = p.free_tails (child (open_with own ss) 0) cells (region-opened size align e (open_with own ss) cells refl h).below
 
-region-refusing : (size align : ℕ) (e : Rules) → IsRegular e → RefusingLaws (region_rules size align e)
+region-refused : (size align : ℕ) (e : Rules) → TailLaws e → RefusedLaws e → RefusedLaws (region_rules size align e)
 unfolding region_rules
-region-refusing size align e p =
+region-refused size align e t p =
     let allocates = λ (n : ℕ). keeps-asked_for n (region_next align n) (allocate-keeps position_of (up n align) n) in
     let expands = λ (d : ℕ). keeps-asked_to_expand d (region_expand align d) (expand-keeps align d) in
     record {
@@ -116,13 +110,18 @@ region-refusing size align e p =
       aligned_allocate = λ n a. keeps-asked_for n (region_aligned align n a) (allocate-keeps (λ s. up (position_of s) (max a align)) (up n align) n);
       expand = expands;
       reallocate = λ n. keeps-asked_to_reallocate n (region_deallocate align) _ (keeps-general_reallocate n all_offers (λ d. asked_to_expand d (region_expand align d)) (asked_for n (region_next align n)) (region_deallocate align) expands (allocates n));
-      none = λ n s cells t. none-asked_for n (region_next align n) s cells (region_is_full (position_of s) (up n align) s) (λ l m. allocate-none (position_of s) (up n align) n s cells);
-      none_aligned = λ n a s cells. none-asked_for n (region_aligned align n a) s cells (region_is_full (up (position_of s) (max a align)) (up n align) s) (λ l m. allocate-none (up (position_of s) (max a align)) (up n align) n s cells);
-      free_tails = free-below size align e p;
+      free_tails = free-below size align e t p;
       refuses_uncounted = λ n s t cells q. rw (same-position s t q, same-chunk s t q) refl;
       refuses_aligned_uncounted = λ n a s t cells q. rw (same-position s t q, same-chunk s t q) refl;
-      free_tails_uncounted = λ s t q. p.refusing.free_tails_uncounted (child s 0) (child t 0) (same-child s t 0 q);
+      free_tails_uncounted = λ s t q. p.free_tails_uncounted (child s 0) (child t 0) (same-child s t 0 q);
     }
+
+region-refusing : (size align : ℕ) (e : Rules) → RefusedLaws (region_rules size align e) → RefusingLaws (region_rules size align e)
+unfolding region_rules
+region-refusing size align e k =
+    refused-refusing (region_rules size align e) k
+    (λ n s cells t. none-asked_for n (region_next align n) s cells (region_is_full (position_of s) (up n align) s) (λ l m. allocate-none (position_of s) (up n align) n s cells))
+    (λ n a s cells. none-asked_for n (region_aligned align n a) s cells (region_is_full (up (position_of s) (max a align)) (up n align) s) (λ l m. allocate-none (up (position_of s) (max a align)) (up n align) n s cells))
 
 -- ---- tails
 
@@ -190,6 +189,10 @@ region-openness size align e =
 
 -- ---- owning and taking
 
+region-along : (path : List ℕ) (possible : Bool) (b : Block) (s : State) → region_owns_at path possible b s ≡ yes_if possible (region_owns_at path true b s)
+region-along [] possible b s = along-at_chunk [] (region_holds b s) possible
+region-along (i ∷ path) possible b s = along-at_chunk (i ∷ path) (region_holds b s) possible
+
 region-owning : (size align : ℕ) (e : Rules) → OwningLaws (region_rules size align e)
 unfolding region_rules
 region-owning size align e = record {
@@ -198,14 +201,8 @@ region-owning size align e = record {
   not_owned = λ b s h. refl;
   open_holds = λ b s h. open-may_hold b s _ h;
   holds_uncounted = λ b s t q. held-same b s t (lies_in b (chunk_of s)) (lies_in b (chunk_of t)) q (ap (lies_in b) (same-chunk s t q));
+  along = region-along;
 }
-
-case-takes : (e : Rules) (p size n : ℕ) (s : State) (cells : Cells) (q : Bool) → OnlyOwnCells e cells (Served p size n s cells q).cells
-case-takes e p size n s cells true = takes-none e cells
-case-takes e p size n s cells false = takes-none e cells
-
-allocate-takes : (e : Rules) (p : State → ℕ) (size n : ℕ) → TakesOwn e (λ s. region_allocate (p s) size n s)
-allocate-takes e p size n s cells = case-takes e (p s) size n s cells (nat_le (p s + size) (end_of (chunk_of s)))
 
 case-count : (p : ℕ) (s : State) (cells : Cells) (q : Bool) → length (Moved p s cells q).cells.tags ≡ length cells.tags
 case-count p s cells true = refl
@@ -231,13 +228,18 @@ region-taking size align e p =
 
 -- ---- all of them
 
-pub region_is_regular : RegionIsRegular
-region_is_regular size align e w p = record {
-  telling = region-telling size align e w p.telling;
+-- whatever its numbers
+pub region-unranged : (size align : ℕ) (e : Rules) → UnrangedLaws e → UnrangedLaws (region_rules size align e)
+region-unranged size align e p = record {
   reading = region-reading size align e p.reading;
-  refusing = region-refusing size align e p;
+  refused = region-refused size align e p.tails p.refused;
   tails = region-tails size align e p.tails;
   openness = region-openness size align e;
   owning = region-owning size align e;
   taking = region-taking size align e p.taking;
 }
+
+pub region_is_regular : RegionIsRegular
+region_is_regular size align e w p =
+    let u = region-unranged size align e (regular-unranged e p) in
+    unranged-regular (region_rules size align e) u (region-telling size align e w p.telling) (region-refusing size align e u.refused)

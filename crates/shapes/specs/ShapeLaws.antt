@@ -1,4 +1,4 @@
--- Shapes' laws: the rules of a proper shape are regular, and lawful where each layer's form is and each leaf has a tag of its own.
+-- Shapes' laws: those that the rules of every shape have; the rules of a proper shape are regular, and lawful where each layer's form is and each leaf has a tag of its own.
 use Rattle.std.proofs.Common.{◌≡◌, refl, sym, subst, ℕ, zero, suc, ◌≢◌, ◌≤◌, inl, true, arith, List}
 use Rattle.std.proofs.lemmas.Bool.Decides.{nat_tests}
 use Rattle.size_round.specs.Sizes.{RoundingKind}
@@ -9,37 +9,37 @@ use Rattle.layer_rules.specs.Rows.{EachPair}
 use Rattle.layer_rules.specs.Rules.{Rules, IsIn, HasDistinctTags, HasSomeTags}
 use Rattle.layer_laws.specs.Basics.{and-fst}
 use Rattle.layer_laws.specs.Chooses.{EachMember, HaveOwnTags}
-use Rattle.layer_laws.specs.Lawful.{IsRegular, IsLawful, most_nodes, most_layers}
+use Rattle.layer_laws.specs.Lawful.{UnrangedLaws, IsRegular, IsLawful, most_nodes, most_layers}
 use Rattle.layer_laws.specs.MembersLawful.{each-lawful}
-use Rattle.layer_laws.specs.NullLawful.{null-regular, null-lawful}
+use Rattle.layer_laws.specs.NullLawful.{null-regular, null-unranged, null-lawful}
 use Rattle.leaf_rules.specs.MemRules.{mem_rules}
-use Rattle.leaf_rules.specs.MemRegular.{mem_is_regular}
+use Rattle.leaf_rules.specs.MemRegular.{mem_is_regular, mem-unranged}
 use Rattle.leaf_rules.specs.MemLawful.{mem_is_lawful}
 use Rattle.region_rules.specs.RegionRules.{region_rules}
-use Rattle.region_rules.specs.RegionRegular.{region_is_regular}
+use Rattle.region_rules.specs.RegionRegular.{region_is_regular, region-unranged}
 use Rattle.region_rules.specs.RegionLawful.{region_is_lawful}
-use Rattle.bitmap_rules.specs.BitmapRegular.{bitmap_is_regular}
-use Rattle.kr_rules.specs.KrRegular.{kr_is_regular}
+use Rattle.bitmap_rules.specs.BitmapRegular.{bitmap_is_regular, bitmap-unranged}
+use Rattle.kr_rules.specs.KrRegular.{kr_is_regular, kr-unranged}
 use Rattle.free_list_rules.specs.FreeListRules.{free_list_rules}
-use Rattle.free_list_rules.specs.FreeListRegular.{free_list-regular}
+use Rattle.free_list_rules.specs.FreeListRegular.{free_list-regular, free_list-unranged}
 use Rattle.free_list_rules.specs.FreeListLawful.{free_list-lawful}
 use Rattle.quantize_rules.specs.QuantizeRules.{quantize_rules}
-use Rattle.quantize_rules.specs.QuantizeLawful.{quantize_is_regular, quantize_is_lawful}
+use Rattle.quantize_rules.specs.QuantizeLawful.{quantize_is_regular, quantize-unranged, quantize_is_lawful}
 use Rattle.stats_rules.specs.StatsRules.{stats_rules}
-use Rattle.stats_rules.specs.StatsLawful.{stats_is_regular, stats_is_lawful}
+use Rattle.stats_rules.specs.StatsLawful.{stats_is_regular, stats-unranged, stats_is_lawful}
 use Rattle.affix_rules.specs.AffixRules.{affix_rules}
-use Rattle.affix_rules.specs.AffixLawful.{affix_is_regular, affix_is_lawful}
+use Rattle.affix_rules.specs.AffixLawful.{affix_is_regular, affix-unranged, affix_is_lawful}
 use Rattle.size_dispatch_rules.specs.SegregateRules.{segregate_rules}
-use Rattle.size_dispatch_rules.specs.SegregateLawful.{segregate_is_regular, segregate_is_lawful}
+use Rattle.size_dispatch_rules.specs.SegregateLawful.{segregate_is_regular, segregate-unranged, segregate_is_lawful}
 use Rattle.size_dispatch_rules.specs.BucketsRules.{buckets_rules}
-use Rattle.size_dispatch_rules.specs.BucketsLawful.{buckets_are_regular, buckets_are_lawful}
-use Rattle.fallback_rules.specs.FallbackRegular.{fallback-regular}
-use Rattle.list_rules.specs.ListRegular.{list-regular}
+use Rattle.size_dispatch_rules.specs.BucketsLawful.{buckets_are_regular, buckets-unranged, buckets_are_lawful}
+use Rattle.fallback_rules.specs.FallbackRegular.{fallback-regular, fallback-unranged}
+use Rattle.list_rules.specs.ListRegular.{list-regular, list-unranged}
 use Rattle.shapes.specs.Proper.{is_proper, are_proper}
 use Rattle.shapes.specs.ProperParts.{region-parts, bitmap-parts, kr-parts, freelist-parts, quantize-parts, stats-parts, affix-parts, segregate-parts, buckets-parts, fallback-parts, list-parts, member-parts}
 use Rattle.shapes.specs.RulesOf.{rules_of, rules_of_each}
 use Rattle.shapes.specs.Shape.{Shape, null, mem, region, bitmap, kr, freelist, quantize, stats, affix, segregate, buckets, fallback, list, Shapes, no_members, member}
-use Rattle.shapes.specs.ShapeMeanings.{HaveLawfulForms, ShapesAreRegular, ShapesAreLawful, CompositionsAreMade}
+use Rattle.shapes.specs.ShapeMeanings.{HaveLawfulForms, ShapesHaveUnrangedLaws, ShapesAreRegular, ShapesAreLawful, CompositionsAreMade}
 
 -- ---- members
 
@@ -53,6 +53,30 @@ no-members : (P : Rules → Type 0) → EachMember P (rules_of_each no_members)
 unfolding rules_of
 no-members P i l = absurd (omega arith)
 
+-- ---- every shape
+
+mutual
+  unfolding rules_of
+
+  pub unranged_of : ShapesHaveUnrangedLaws
+  unranged_of null = null-unranged
+  unranged_of (mem tag) = mem-unranged tag
+  unranged_of (region size align e) = region-unranged size align (rules_of e) (unranged_of e)
+  unranged_of (bitmap unit count e) = bitmap-unranged unit count (rules_of e) (unranged_of e)
+  unranged_of (kr size e) = kr-unranged size (rules_of e) (unranged_of e)
+  unranged_of (freelist least greatest e) = free_list-unranged least greatest (rules_of e) (unranged_of e)
+  unranged_of (quantize kind e) = quantize-unranged kind (rules_of e) (unranged_of e)
+  unranged_of (stats e) = stats-unranged (rules_of e) (unranged_of e)
+  unranged_of (affix prefix suffix e) = affix-unranged prefix suffix (rules_of e) (unranged_of e)
+  unranged_of (segregate ts es) = segregate-unranged ts (rules_of_each es) (all_unranged_of es)
+  unranged_of (buckets least greatest step es) = buckets-unranged least greatest step (rules_of_each es) (all_unranged_of es)
+  unranged_of (fallback p f) = fallback-unranged (rules_of p) (rules_of f) (unranged_of p) (unranged_of f)
+  unranged_of (list es) = list-unranged (rules_of_each es) (all_unranged_of es)
+
+  pub all_unranged_of : (es : Shapes) → EachMember UnrangedLaws (rules_of_each es)
+  all_unranged_of no_members = no-members UnrangedLaws
+  all_unranged_of (member e es) = each-cons UnrangedLaws e es (unranged_of e) (all_unranged_of es)
+
 -- ---- every proper shape is regular
 
 mutual
@@ -63,8 +87,8 @@ mutual
   regular_of (mem tag) p = mem_is_regular tag
   regular_of (region size align e) p = let q = region-parts size align e p in region_is_regular size align (rules_of e) q.0 (regular_of e q.1)
   regular_of (bitmap unit count e) p = let q = bitmap-parts unit count e p in bitmap_is_regular unit count (rules_of e) q.0 (regular_of e q.1)
-  regular_of (kr size e) p = let q = kr-parts size e p in kr_is_regular size (rules_of e) q.0 (regular_of e q.1)
-  regular_of (freelist least greatest e) p = let q = freelist-parts least greatest e p in free_list-regular least greatest (rules_of e) q.0 (regular_of e q.1)
+  regular_of (kr size e) p = let q = kr-parts size e p in kr_is_regular size (rules_of e) (regular_of e q.1)
+  regular_of (freelist least greatest e) p = let q = freelist-parts least greatest e p in free_list-regular least greatest (rules_of e) (regular_of e q.1)
   regular_of (quantize kind e) p = let q = quantize-parts kind e p in quantize_is_regular kind (rules_of e) q.0 (regular_of e q.1)
   regular_of (stats e) p = stats_is_regular (rules_of e) (regular_of e (stats-parts e p))
   regular_of (affix prefix suffix e) p = affix_is_regular prefix suffix (rules_of e) (regular_of e (affix-parts prefix suffix e p))

@@ -1,9 +1,9 @@
--- ShapeMeanings: what it is that a shape is proper, and what holds of the rules of each proper shape.
+-- ShapeMeanings: what it is that a shape is proper, and what holds of the rules of each shape and of each proper one.
 use Rattle.size_round.specs.Sizes.{is_between}
 use Rattle.std.specs.Prelude.{◌≡◌, ℕ, ◌<◌, ◌↔◌, true, List, length, ⊤}
 use Rattle.layer_rules.specs.Members.{nth}
 use Rattle.layer_rules.specs.Rules.{HasDistinctTags, HasSomeTags}
-use Rattle.layer_laws.specs.Lawful.{IsRegular, IsLawful, IsMade}
+use Rattle.layer_laws.specs.Lawful.{UnrangedLaws, IsRegular, IsLawful, IsMade}
 use Rattle.size_dispatch_rules.specs.BucketsMeanings.{HasBucket}
 use Rattle.size_dispatch_rules.specs.SegregateRules.{member_for}
 use Rattle.shapes.specs.Proper.{all_own, is_proper, are_proper, is_composition}
@@ -39,6 +39,12 @@ abbrev pub ProperHasBucket : Type 0
 ProperHasBucket =
     (least greatest step : ℕ) (es : Shapes) (n : ℕ) → is_proper (buckets least greatest step es) ≡ true → is_between least greatest n ≡ true
     → HasBucket least greatest step (rules_of_each es) n
+
+-- ---- every shape
+
+-- whatever its numbers are
+abbrev pub ShapesHaveUnrangedLaws : Type 0
+ShapesHaveUnrangedLaws = (e : Shape) → UnrangedLaws (rules_of e)
 
 -- ---- every proper shape
 

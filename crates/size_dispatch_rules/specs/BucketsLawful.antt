@@ -11,8 +11,8 @@ use Rattle.layer_rules.specs.Choosing.{choosing_rules}
 use Rattle.layer_laws.specs.Chooses.{Chooses, EachMember}
 use Rattle.layer_laws.specs.ChoosingParts.{out-chosen, chosen-out}
 use Rattle.layer_laws.specs.ChoosingPlacing.{choosing-lawful}
-use Rattle.layer_laws.specs.ChoosingRegular.{choosing-regular}
-use Rattle.layer_laws.specs.Lawful.{most_nodes, most_layers, IsMade}
+use Rattle.layer_laws.specs.ChoosingRegular.{choosing-regular, choosing-unranged}
+use Rattle.layer_laws.specs.Lawful.{most_nodes, most_layers, UnrangedLaws, IsMade}
 use Rattle.layer_laws.specs.MembersLawful.{own-tags, each-lawful}
 use Rattle.layer_laws.specs.GoodSizes.{served-enough, unserved-above}
 use Rattle.size_dispatch_rules.specs.BucketsRules.{bucket_for, bucket_size, bucketed, bucket_down, buckets_choice, buckets_rules}
@@ -114,6 +114,11 @@ buckets-chooses least greatest step es p =
       of_nothing = refl;
       above_limit = λ n l. unserved-above (bucketed least greatest step) n l;
     }
+
+-- whatever their range and step
+pub buckets-unranged : (least greatest step : ℕ) (es : List Rules) → EachMember UnrangedLaws es → UnrangedLaws (buckets_rules least greatest step es)
+unfolding buckets_rules
+buckets-unranged least greatest step es r = choosing-unranged (buckets_choice least greatest step) es r
 
 pub buckets_are_regular : BucketsAreRegular
 unfolding buckets_rules

@@ -9,9 +9,9 @@ use Rattle.layer_rules.specs.Choosing.{choosing_rules}
 use Rattle.layer_laws.specs.Chooses.{Chooses, EachMember}
 use Rattle.layer_laws.specs.ChoosingParts.{out-chosen, chosen-out}
 use Rattle.layer_laws.specs.ChoosingPlacing.{choosing-lawful}
-use Rattle.layer_laws.specs.ChoosingRegular.{choosing-regular}
+use Rattle.layer_laws.specs.ChoosingRegular.{choosing-regular, choosing-unranged}
 use Rattle.layer_laws.specs.GoodSizes.{served-enough, unserved-above}
-use Rattle.layer_laws.specs.Lawful.{most_nodes, most_layers, IsRegular, IsMade}
+use Rattle.layer_laws.specs.Lawful.{most_nodes, most_layers, UnrangedLaws, IsRegular, IsMade}
 use Rattle.layer_laws.specs.MembersLawful.{all-regular, own-tags, each-lawful}
 use Rattle.size_dispatch_rules.specs.SegregateRules.{are_thresholds, member_for, segregate_choice, segregate_rules}
 use Rattle.size_dispatch_rules.specs.SegregateMeanings.{AreAscending, ThresholdsAreAscending, AreThresholds, IsFirstNotBelow, MemberForIsFirst, HasMemberFor, OutOfSegregate, SegregateIsRegular, SegregateIsLawful}
@@ -100,6 +100,11 @@ segregate-chooses ts es p r = record {
   of_nothing = refl;
   above_limit = λ n l. unserved-above (λ m. (nth es (member_for ts m)).good_alloc_size m) n l;
 }
+
+-- whatever its thresholds
+pub segregate-unranged : (ts : List ℕ) (es : List Rules) → EachMember UnrangedLaws es → UnrangedLaws (segregate_rules ts es)
+unfolding segregate_rules
+segregate-unranged ts es r = choosing-unranged (segregate_choice ts es) es r
 
 pub segregate_is_regular : SegregateIsRegular
 unfolding segregate_rules

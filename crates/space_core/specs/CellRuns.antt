@@ -5,7 +5,7 @@ use Rattle.std.proofs.lemmas.Bool.Decides.{nat_tests}
 use Rattle.std.proofs.lemmas.List.{get_or-drop, drop-drop, length-map}
 use Rattle.std.proofs.lemmas.Bool.{and_from, and_left, and_right}
 use Rattle.std.proofs.Math.ListN.{drop_of_length-le}
-use Rattle.space_core.specs.Cells.{Cells, taken_cells, cells_with, cell_at, cells_touched, has_tag}
+use Rattle.space_core.specs.Cells.{Cells, taken_cells, cells_with, cell_at, cells_touched, has_tag, cell_behind, more_cells, has_room_behind}
 use Rattle.space_core.specs.Runs.{starts_free, starts_taken, is_free_run, is_taken_run, first_run, put_run}
 
 -- ---- the row of a table
@@ -98,6 +98,12 @@ not_free (suc n) k [] l e = refl
 not_free (suc n) k (true ∷ us) l e = refl
 not_free (suc n) zero (false ∷ us) l e = absurd (cc)
 not_free (suc n) (suc k) (false ∷ us) l e = not_free n k us (omega arith) e
+
+pub not_free-there : (T : List ℕ) (c n j : ℕ) → c ≤ j → j < c + n → (j < length T → get_or T j 0 ≢ 0) → is_free_run (row T) c n ≡ false
+not_free-there T c n j a b h =
+    let k = j - c in
+    let p : c + k ≡ j = omega arith in
+    not_free n k (drop c (row T)) (omega arith) (rw (get_or-drop c (row T) k true, p) (row-taken T j h))
 
 -- ---- the first run
 
@@ -193,3 +199,11 @@ length-put_run x zero (suc n) [] = refl
 length-put_run x zero (suc n) (y ∷ ys) = ap suc (length-put_run x zero n ys)
 length-put_run x (suc i) n [] = refl
 length-put_run x (suc i) n (y ∷ ys) = ap suc (length-put_run x i n ys)
+
+-- free cells behind a block with cells of its own stand within the table
+pub behind-inside : (tag place n m : ℕ) (cells : Cells) → has_tag tag place n cells ≡ true → 1 ≤ n → has_room_behind place n m cells ≡ true → cell_behind place n + more_cells place n m ≤ length cells.tags
+behind-inside tag place n m cells h p f = by_count (more_cells place n m) f
+  where
+    by_count : (k : ℕ) → is_free_run (taken_cells cells) (cell_behind place n) k ≡ true → cell_behind place n + k ≤ length cells.tags
+    by_count zero f = let t = tagged-inside tag place n cells h p in omega arith
+    by_count (suc k) f = free-inside cells.tags (cell_behind place n) (suc k) f (omega arith)

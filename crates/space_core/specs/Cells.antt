@@ -1,7 +1,7 @@
 -- Cells: the table of a Space's cells of 64 bytes, with one tag each, where 0 is free.
 use Rattle.std.specs.Prelude.{ℕ, ◌+◌, ◌-◌, ◌*◌, ◌/◌, ◌%◌, Bool, not, List, Option, Some, None, map, max, nat_eq, count_by, cond}
 use Rattle.size_round.specs.Sizes.{ceil_div}
-use Rattle.space_core.specs.Runs.{is_taken_run, first_run, put_run}
+use Rattle.space_core.specs.Runs.{is_free_run, is_taken_run, first_run, put_run}
 
 pub record Cells : Type 0 where
   pub tags : List ℕ
@@ -56,3 +56,19 @@ has_tag tag place n cells = is_taken_run (cells_with tag cells) (cell_at place) 
 -- the table in which these cells are free
 abbrev pub cells_given : (place n : ℕ) → Cells → Cells
 cells_given place n cells = tag_cells 0 (cell_at place) (cells_touched place n) cells
+
+-- the first cell behind those that n bytes touch, and how many more cells are touched by m more bytes
+abbrev pub cell_behind : (place n : ℕ) → ℕ
+cell_behind place n = cell_at place + cells_touched place n
+
+abbrev pub more_cells : (place n m : ℕ) → ℕ
+more_cells place n m = cells_touched place (n + m) - cells_touched place n
+
+-- these further cells are there and free
+abbrev pub has_room_behind : (place n m : ℕ) → Cells → Bool
+has_room_behind place n m cells = is_free_run (taken_cells cells) (cell_behind place n) (more_cells place n m)
+
+-- the table after they were asked for: tagged where they are there and free
+abbrev pub cells_grown : (tag place n m : ℕ) → Cells → Cells
+cells_grown tag place n m cells =
+    cond (has_room_behind place n m cells) (tag_cells tag (cell_behind place n) (more_cells place n m) cells) cells

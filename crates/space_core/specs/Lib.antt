@@ -5,3 +5,4 @@ pub mod Leaf
 pub mod Memory
 pub mod Runs
 pub mod Words
+pub mod Writes

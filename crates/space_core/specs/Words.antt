@@ -1,5 +1,5 @@
 -- Words: numbers of eight bytes in a Space's bytes, lowest byte first, and bytes that are written there.
-use Rattle.std.specs.Prelude.{ℕ, ◌+◌, ◌≡◌, ◌≤◌, Bool, List, [], ◌∷◌, length, slice_range, nat_le}
+use Rattle.std.specs.Prelude.{ℕ, ◌+◌, ◌≡◌, ◌≤◌, ◌<◌, Bool, List, [], ◌∷◌, length, get_or, slice_range, nat_le}
 use Rattle.std.specs.Int.{from_le_bytes, to_le_bytes, w64}
 use Rattle.std.proofs.Math.ListN.{set}
 use Rattle.space_core.specs.Runs.{put_run}
@@ -29,3 +29,10 @@ has_bytes bytes p n = nat_le (p + n) (length bytes)
 pub record IsWordAt (bytes : List ℕ) (place n : ℕ) : Type 0 where
   pub inside : place + 8 ≤ length bytes
   pub value : word_at bytes place ≡ n
+
+-- the n bytes from a place on stand at another one, and no other byte changes
+pub record IsCopied (old new : List ℕ) (source target n : ℕ) : Type 0 where
+  pub size : length new ≡ length old
+  pub there : (i : ℕ) → i < n → get_or new (target + i) 0 ≡ get_or old (source + i) 0
+  pub below : (i : ℕ) → i < target → get_or new i 0 ≡ get_or old i 0
+  pub above : (i : ℕ) → target + n ≤ i → get_or new i 0 ≡ get_or old i 0

@@ -3,17 +3,21 @@
 
 mod leaf;
 mod runs;
+mod store;
 mod words;
 
-ghost use Rattle.std.specs.Prelude.{◌≡◌, ◌+◌, ◌*◌, ◌≤◌, ◌<◌, ◌↔◌, true, false, length, slice_index, slice_set, option_map, IsNone, IfNone, IfSome, OnSome, OnOk, OnErr};
+ghost use Rattle.std.specs.Prelude.{◌≡◌, ◌+◌, ◌*◌, ◌≤◌, ◌<◌, ◌↔◌, true, false, length, slice_index, slice_range, slice_set, option_map, IsNone, IfNone, IfSome, OnSome, OnOk, OnErr};
+ghost use Rattle.std.specs.Borrow.{Lends, Array, sem, u8 as byte};
 ghost use Rattle.size_round.specs.Sizes.{limit};
-ghost use Rattle.space_core.specs.Cells.{cell_size, used_by, free_tag, tag_cells, least_cells, cells_granted, has_tag, cells_given};
+ghost use Rattle.space_core.specs.Cells.{cell_size, used_by, free_tag, tag_cells, least_cells, cells_granted, has_tag, cells_given, has_room_behind, cells_grown};
 ghost use Rattle.space_core.specs.Memory.{IsMemory, most_cells, most_leaves, no_memory, fresh_memory};
-ghost use Rattle.space_core.specs.Words.{word_at, put_word, filled};
+ghost use Rattle.space_core.specs.Words.{word_at, put_word, filled, write_from, IsCopied};
+ghost use Rattle.space_core.specs.contracts.Space.{the_row};
 
 pub use leaf::Mem;
 use std::alloc::{AllocError, Global};
 use std::marker::Model;
+use store::Store;
 use thiserror::Error;
 
 /// The bytes of a cell.
@@ -36,19 +40,12 @@ impl From<AllocError> for NoMemory {
     }
 }
 
-/// The memory of a Space that is set up: 64 bytes and one tag for each cell.
-#[derive(Drop)]
-struct Store {
-    bytes: Vec<u8>,
-    tags: Vec<u32>,
-}
-
 /// Raw bytes in cells of 64 bytes, with one tag a cell, where 0 is free.
 ///
 /// Places are offsets in bytes from the Space's begin, and cells are counted from 0.
 #[derive(Drop)]
 pub struct Space {
-    store: Option<Store>,
+    store: Store,
     leaves: u32,
 }
 
@@ -69,7 +66,7 @@ impl Space {
         ensures { result ≡ no_memory 0 }
     {
         Space {
-            store: None,
+            store: Store::Closed { none: [] },
             leaves: 0,
         }
     }
@@ -90,7 +87,7 @@ impl Space {
         let bytes = vec![in alloc; 0u8; CELL_SIZE as usize * cells as usize]?;
         let tags = vec![in alloc; 0u32; cells as usize]?;
         *self = Space {
-            store: Some(Store { bytes, tags }),
+            store: Store::Open { bytes, tags },
             leaves,
         };
         Ok(())
@@ -162,8 +159,8 @@ impl Space {
         ensures after { self.new ≡ record self.old { bytes = slice_set self.old.bytes place value } }
         ensures memory { IsMemory self.new }
     {
-        if let Some(store) = &mut self.store {
-            store.bytes[place as usize] = value;
+        if let Store::Open { bytes, tags: _ } = &mut self.store {
+            bytes[place as usize] = value;
         }
     }
 
@@ -173,8 +170,8 @@ impl Space {
         ensures after { self.new ≡ record self.old { bytes = put_word self.old.bytes place value } }
         ensures memory { IsMemory self.new }
     {
-        if let Some(store) = &mut self.store {
-            words::write_word(store.bytes.as_mut_slice(), place as usize, value);
+        if let Store::Open { bytes, tags: _ } = &mut self.store {
+            words::write_word(bytes.as_mut_slice(), place as usize, value);
         }
     }
 
@@ -184,14 +181,40 @@ impl Space {
         ensures after { self.new ≡ record self.old { bytes = filled self.old.bytes place n value } }
         ensures memory { IsMemory self.new }
     {
-        if let Some(store) = &mut self.store {
-            runs::put_run(
-                store.bytes.as_mut_slice(),
-                place as usize,
-                n as usize,
-                value,
-            );
+        if let Store::Open { bytes, tags: _ } = &mut self.store {
+            runs::put_run(bytes.as_mut_slice(), place as usize, n as usize, value);
         }
+    }
+
+    /// Copies `n` bytes from one place to another, which may overlap.
+    pub fn copy(&mut self, source: u64, target: u64, n: u64)
+        requires source { source + n ≤ length self.old.bytes }
+        requires target { target + n ≤ length self.old.bytes }
+        ensures copied { IsCopied self.old.bytes self.new.bytes source target n }
+        ensures after { self.new ≡ record self.old { bytes = self.new.bytes } }
+        ensures memory { IsMemory self.new }
+    {
+        if let Store::Open { bytes, tags: _ } = &mut self.store {
+            let from = source as usize;
+            bytes.copy_within(from..from + n as usize, target as usize);
+        }
+    }
+
+    /// The `len` bytes from a place on.
+    pub fn lend(&self, place: u64, len: u64) -> &[u8]
+        requires { place + len ≤ length self.now.bytes }
+        ensures { result.now ≡ slice_range self.now.bytes place (place + len) }
+    {
+        &self.bytes()[place as usize..(place + len) as usize]
+    }
+
+    /// The `len` bytes from a place on, for writing. What is written there is all that changes.
+    pub fn lend_mut(&mut self, place: u64, len: u64) -> &mut [u8]
+        requires { place + len ≤ length self.old.bytes }
+        ensures* writes_back { sem 𝓛 (Lends the_row (Array byte 0) self.entry result (λ written. record self.old { bytes = write_from self.old.bytes place written })) }
+        ensures value { result.now ≡ slice_range self.old.bytes place (place + len) }
+    {
+        self.store.lend_mut(place as usize, (place + len) as usize)
     }
 
     /// Tags the least run of free cells that has room for so many bytes, and gives the place of its first.
@@ -218,6 +241,31 @@ impl Space {
         }
     }
 
+    /// Tags the further cells that `more` bytes behind so many bytes touch, whose cells have the tag.
+    ///
+    /// `false` where these cells aren't there and free: nothing changes then.
+    pub fn grow(&mut self, tag: u32, place: u64, bytes: u64, more: u64) -> bool
+        requires tag { 1 ≤ tag }
+        requires some { 1 ≤ bytes }
+        requires most { bytes + more ≤ limit }
+        requires has { has_tag tag place bytes self.old.cells ≡ true }
+        ensures room { result ≡ has_room_behind place bytes more self.old.cells }
+        ensures after { self.new ≡ record self.old { cells = cells_grown tag place bytes more self.old.cells } }
+        ensures memory { IsMemory self.new }
+    {
+        // As in `give`, the cells are counted from the first one's begin.
+        let inside = place % CELL_SIZE;
+        let first = place / CELL_SIZE;
+        let behind = (inside + bytes + (CELL_SIZE - 1)) / CELL_SIZE;
+        let cells = (inside + bytes + more + (CELL_SIZE - 1)) / CELL_SIZE - behind;
+        let from = (first + behind) as usize;
+        if !runs::is_free(self.tags(), from, cells as usize) {
+            return false;
+        }
+        self.put_tag(tag, from, cells as usize);
+        true
+    }
+
     /// Frees the cells that so many bytes from a place on touch, each of which has the tag.
     pub fn give(&mut self, tag: u32, place: u64, bytes: u64)
         requires some { 1 ≤ bytes }
@@ -237,8 +285,8 @@ impl Space {
         ensures after { self.new ≡ record self.old { cells = free_tag tag self.old.cells } }
         ensures memory { IsMemory self.new }
     {
-        if let Some(store) = &mut self.store {
-            runs::free_tag(store.tags.as_mut_slice(), tag);
+        if let Store::Open { bytes: _, tags } = &mut self.store {
+            runs::free_tag(tags.as_mut_slice(), tag);
         }
     }
 
@@ -246,20 +294,14 @@ impl Space {
         ensures bytes { result.now ≡ self.now.bytes }
         ensures memory { IsMemory self.now }
     {
-        match &self.store {
-            Some(store) => store.bytes.as_slice(),
-            None => &[],
-        }
+        self.store.bytes()
     }
 
     fn tags(&self) -> &[u32]
         ensures tags { result.now ≡ self.now.cells.tags }
         ensures memory { IsMemory self.now }
     {
-        match &self.store {
-            Some(store) => store.tags.as_slice(),
-            None => &[],
-        }
+        self.store.tags()
     }
 
     /// Gives the tag to so many cells from the first on.
@@ -268,8 +310,8 @@ impl Space {
         ensures after { self.new ≡ record self.old { cells = tag_cells tag first cells self.old.cells } }
         ensures memory { IsMemory self.new }
     {
-        if let Some(store) = &mut self.store {
-            runs::put_run(store.tags.as_mut_slice(), first, cells, tag);
+        if let Store::Open { bytes: _, tags } = &mut self.store {
+            runs::put_run(tags.as_mut_slice(), first, cells, tag);
         }
     }
 }
@@ -297,6 +339,31 @@ mod tests {
         space.give(tag, CELL_SIZE * u64::from(cell), CELL_SIZE);
         assert!(rt; cell < space.cells());
         assert_eq!(rt; space.tag(cell), 0);
+    }
+
+    /// Asks for more bytes behind so many of a cell's own, and wants the answer.
+    fn grows_cell(
+        rt: &impl Abort,
+        space: &mut Space,
+        cell: u32,
+        bytes: u64,
+        more: u64,
+        want: bool,
+    ) {
+        assert!(rt; cell < space.cells() && 1 <= bytes && bytes <= CELL_SIZE && more <= 4096);
+        let tag = space.tag(cell);
+        assert!(rt; 1 <= tag);
+        let grown = space.grow(tag, CELL_SIZE * u64::from(cell), bytes, more);
+        assert_eq!(rt; grown, want, "{more} more bytes at cell {cell}");
+    }
+
+    /// Writes into the bytes that the Space lends.
+    fn writes_from(space: &mut Space, place: u64, written: &[u8])
+        requires { place + length written.now ≤ length space.old.bytes }
+        ensures { space.new ≡ record space.old { bytes = write_from space.old.bytes place written.now } }
+    {
+        let lent = space.lend_mut(place, written.len() as u64);
+        lent.copy_from_slice(written);
     }
 
     fn writes_bytes(rt: &impl Abort, space: &mut Space)
@@ -344,6 +411,65 @@ mod tests {
             &mut space,
             &[(6, 65, 256, Some(512)), (6, 1 << 40, 64, None)],
         );
+        Ok(())
+    }
+
+    #[test]
+    fn copies_from_place_to_place(rt: HostRuntime) -> Result<(), NoMemory> {
+        let rows = [
+            (0, 2, 4, 0x0807_0403_0201_0201),
+            (2, 0, 4, 0x0807_0605_0605_0403),
+            (0, 4, 4, 0x0403_0201_0403_0201),
+            (1, 5, 0, 0x0807_0605_0403_0201),
+            (0, 0, 8, 0x0807_0605_0403_0201),
+        ];
+        for &(source, target, n, want) in &rows {
+            assert!(rt; source <= 8 && target <= 8 && n <= 8);
+            let mut space = Space::closed();
+            space.set_up(rt.alloc(), 1)?;
+            space.set_word(0, 0x0807_0605_0403_0201);
+            space.copy(source, target, n);
+            assert_eq!(rt; space.word(0), want, "{n} bytes at {source} to {target}");
+        }
+        Ok(())
+    }
+
+    #[test]
+    fn lends_its_bytes(rt: HostRuntime) -> Result<(), NoMemory> {
+        let mut space = Space::closed();
+        writes_from(&mut space, 0, &[]);
+        assert!(rt; space.lend(0, 0).is_empty());
+        space.set_up(rt.alloc(), 1)?;
+        writes_from(&mut space, 2, &[1, 2, 3]);
+        writes_from(&mut space, 64, &[]);
+        assert_eq!(rt; space.lend(1, 5), [0, 1, 2, 3, 0].as_slice());
+        assert!(rt; space.lend(64, 0).is_empty());
+        Ok(())
+    }
+
+    #[test]
+    fn grows_into_free_cells(rt: HostRuntime) -> Result<(), NoMemory> {
+        let mut space = Space::closed();
+        space.set_up(rt.alloc(), 4)?;
+        grants(
+            &rt,
+            &mut space,
+            &[(1, 64, 64, Some(0)), (2, 64, 64, Some(64))],
+        );
+        // By cell, bytes of it, and more bytes: the answer, and the cells that the second tag then has.
+        let rows = [
+            (0, 64, 1, false, 1),
+            (0, 10, 54, true, 1),
+            (1, 64, 129, false, 1),
+            (1, 64, 128, true, 3),
+            (3, 64, 1, false, 3),
+            (3, 64, 0, true, 3),
+        ];
+        for &(cell, bytes, more, want, used) in &rows {
+            grows_cell(&rt, &mut space, cell, bytes, more, want);
+            assert_eq!(rt; space.used_by(2), used);
+        }
+        assert_eq!(rt; space.used_by(1), 1);
         Ok(())
     }
 

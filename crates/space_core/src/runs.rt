@@ -33,6 +33,17 @@ fn first_taken(tags: &[u32], from: usize, cells: usize) -> Option<usize>
     None
 }
 
+/// Whether so many cells from the first on are there and free.
+pub fn is_free(tags: &[u32], from: usize, cells: usize) -> bool
+    requires { from + cells < 2 ^ 63 }
+    ensures { result ≡ is_free_run (taken_cells (record { tags = tags.now })) from cells }
+{
+    match first_taken(tags, from, cells) {
+        Some(_taken) => false,
+        None => true,
+    }
+}
+
 /// The least cell from which so many cells are free, and which begins at a multiple of `align` bytes, or of 64.
 ///
 /// Each cell is looked at once: no run can begin at or before a cell that is taken.

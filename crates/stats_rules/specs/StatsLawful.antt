@@ -5,11 +5,12 @@ use Rattle.layer_rules.specs.State.{Own, stats_own, without_counts}
 use Rattle.layer_rules.specs.Steady.{own_steady}
 use Rattle.layer_rules.specs.Unread.{own_unread}
 use Rattle.layer_rules.specs.Rules.{Rules}
-use Rattle.layer_laws.specs.Lawful.{TellingLaws}
-use Rattle.layer_laws.specs.HandsDown.{HandsDown}
+use Rattle.layer_laws.specs.Lawful.{TellingLaws, UnrangedLaws}
+use Rattle.layer_laws.specs.HandsDown.{HandsDown, KeepsWhereRefused}
 use Rattle.layer_laws.specs.Steps.{as-long}
-use Rattle.layer_laws.specs.HandingLawful.{out-hand, hand-out, hand-lawful}
-use Rattle.layer_laws.specs.HandingRegular.{hand-regular}
+use Rattle.layer_laws.specs.HandingLawful.{hand-lawful}
+use Rattle.layer_laws.specs.HandingParts.{out-hand, hand-out}
+use Rattle.layer_laws.specs.HandingRegular.{hand-regular, hand-unranged}
 use Rattle.stats_rules.specs.StatsRules.{is_stats_own, recounted, stats_handing, stats_rules}
 use Rattle.stats_rules.specs.StatsMeanings.{StatsIsRegular, StatsIsLawful, OutOfStats}
 
@@ -29,6 +30,18 @@ unread-recounted : (f : Stats → Stats) (own : Own) → own_unread (recounted f
 unread-recounted f (stats_own counts) = refl
 unread-recounted f _ = refl
 
+-- its numbers are statistics
+stats-keeps : (e : Rules) → KeepsWhereRefused (stats_handing e)
+stats-keeps e = record {
+  allocated = λ n own. uncounted-recounted _ own;
+  expanded = λ delta b own. uncounted-recounted _ own;
+  reallocated = λ n b own. uncounted-recounted _ own;
+  owned = λ own. uncounted-recounted _ own;
+  owned_steady = λ own. steady-recounted _ own;
+  owned_unread = λ own. unread-recounted _ own;
+  admits = λ n x y q. refl;
+}
+
 pub stats-hands : (e : Rules) → TellingLaws e → HandsDown (stats_handing e) e
 stats-hands e t =
     record {
@@ -36,6 +49,7 @@ stats-hands e t =
       wider = λ b f. record { from = omega arith; upto = omega arith };
       longer = λ b delta f. record { fits = refl; down = as-long b delta };
       asked_some = λ n l. l;
+      placed = λ a n b. refl;
       tells = record {
         enough = t.enough;
         of_nothing = t.of_nothing;
@@ -49,22 +63,22 @@ stats-hands e t =
         expanded = λ ok delta b own p a. still-stats _ own p;
         deallocated = λ ok b own p. still-stats _ own p;
         all_deallocated = λ own p. still-stats _ own p;
+        reallocated = λ n b r own p. still-stats _ own p;
+        owned = λ own p. still-stats _ own p;
       };
-      refused = record {
-        allocated = λ n own. uncounted-recounted _ own;
-        expanded = λ delta b own. uncounted-recounted _ own;
-        reallocated = λ n b own. uncounted-recounted _ own;
-        owned = λ own. uncounted-recounted _ own;
-        owned_steady = λ own. steady-recounted _ own;
-        owned_unread = λ own. unread-recounted _ own;
-        admits = λ n x y q. refl;
-      };
+      refused = stats-keeps e;
       round = record {
         clean = λ b old new f k z. z;
         marked = λ b old new f k z. z;
         clean_is_marked = λ b bytes z. z;
       };
+      in_place = λ b n f q. absurd (cc);
+      one_place = λ b c f g q. q;
     }
+
+pub stats-unranged : (e : Rules) → UnrangedLaws e → UnrangedLaws (stats_rules e)
+unfolding stats_rules
+stats-unranged e g = hand-unranged (stats_handing e) e (stats-keeps e) g
 
 pub stats_is_regular : StatsIsRegular
 unfolding stats_rules

@@ -1,4 +1,4 @@
-use Rattle.layer_laws.specs.StandingLaws.{allocated-stands, allocated-gives, allocated-keeps_out, allocated-keeps_extents}
+use Rattle.layer_laws.specs.StandingLaws.{allocated-stands, allocated-gives, allocated-keeps_out, allocated-keeps_extents, allocated-keeps_routes}
 use Rattle.layer_laws.proofs.standing.allocate_keeps.Goals as goal
 
 pub returns-clause-stands : goal.returns-clause-stands
@@ -12,3 +12,6 @@ returns-clause-out c = allocated-keeps_out
 
 pub returns-clause-extents : goal.returns-clause-extents
 returns-clause-extents c = allocated-keeps_extents
+
+pub returns-clause-routes : goal.returns-clause-routes
+returns-clause-routes c = allocated-keeps_routes

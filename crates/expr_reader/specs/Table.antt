@@ -1,0 +1,47 @@
+-- The table of words: what is written behind each, what its numbers may be, and which alignment its blocks have.
+use Rattle.std.specs.Prelude.{ℕ, false, List, [], ◌∷◌, length, None}
+use Rattle.layer_rules.specs.Offering.{full_alignment}
+use Rattle.size_round.specs.Sizes.{size_bound}
+use Rattle.space_core.specs.Cells.{cell_size}
+use Rattle.expr_reader.specs.declared.token.Name.{Name}
+use Rattle.expr_reader.specs.declared.token.Name.TheVariants as name
+use Rattle.expr_reader.specs.declared.signature.Entry.{Entry}
+use Rattle.expr_reader.specs.declared.signature.Entry.TheVariants.{Missing, Alone, Takes}
+use Rattle.expr_reader.specs.declared.table.Allowed.{Allowed}
+use Rattle.expr_reader.specs.declared.table.Allowed.TheVariants.{Between, PowerOfTwo}
+use Rattle.expr_reader.specs.declared.table.Alignment.{Alignment}
+use Rattle.expr_reader.specs.declared.table.Alignment.TheVariants.{AsBelow, Fixed, OfNumber}
+use Rattle.expr_reader.specs.declared.table.Profile as declared
+
+-- what the table says of a word, with what each of its numbers may be, in order
+pub record Profile : Type 0 where
+  pub entry : Entry
+  pub allowed : List Allowed
+  pub alignment : Alignment
+
+-- the same of what the program has, without where it lies in memory
+abbrev pub profile_data : declared.Profile → Profile
+profile_data p = record { entry = p.entry; allowed = p.allowed.now; alignment = p.alignment }
+
+abbrev pub missing : Profile
+missing = record { entry = Missing; allowed = []; alignment = AsBelow }
+
+-- a word that stands alone, whose blocks begin at multiples of this
+abbrev pub alone : (bytes : ℕ) → Profile
+alone bytes = record { entry = Alone; allowed = []; alignment = Fixed bytes }
+
+-- numbers, of which each may be so much, and a layer
+abbrev pub over_one : List Allowed → Alignment → Profile
+over_one allowed alignment =
+    record {
+      entry = Takes (record { choice = None; numbers = length allowed; layers = 0; pairs = false });
+      allowed = allowed;
+      alignment = alignment;
+    }
+
+-- The table: a row for each word of the grammar. A name with no row is no word yet.
+abbrev pub profile_of : Name → Profile
+profile_of name.Null = alone full_alignment
+profile_of name.Mem = alone cell_size
+profile_of name.Region = over_one (Between 1 size_bound ∷ PowerOfTwo 4096 ∷ []) (OfNumber 1)
+profile_of k = missing

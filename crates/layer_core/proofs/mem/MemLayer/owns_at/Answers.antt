@@ -1,0 +1,8 @@
+use Rattle.std.proofs.Common.{refl, arith}
+use Rattle.std.proofs.Math.Seq.{drop-cons}
+use Rattle.leaf_rules.specs.MemRules.{mem_rules}
+use Rattle.layer_core.proofs.mem.MemLayer.owns_at.Goals as goal
+
+pub returns-then-from-len : goal.returns-then-from-len
+unfolding mem_rules
+returns-then-from-len c = rw (drop-cons c.args.path.now c.args.from 0 (omega arith)) refl

@@ -1,0 +1,5 @@
+use Rattle.layer_laws.specs.FurtherLaws.{owned-keeps}
+use Rattle.layer_laws.proofs.standing.owns_keeps.Goals as goal
+
+pub returns : goal.returns
+returns c = owned-keeps

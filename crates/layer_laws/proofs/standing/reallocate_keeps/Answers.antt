@@ -1,0 +1,5 @@
+use Rattle.layer_laws.specs.StandingReallocated.{reallocated-keeps}
+use Rattle.layer_laws.proofs.standing.reallocate_keeps.Goals as goal
+
+pub returns : goal.returns
+returns c = reallocated-keeps
