@@ -1,18 +1,18 @@
--- The canonical text of an accepted expression is accepted, as that expression in its places.
-use Rattle.std.proofs.Common.{◌≡◌, refl, ◌∙◌, ap, ℕ, suc, ◌+◌, List, [], ◌∷◌, max, min, nat_le, drop, length, Option, None, arith}
+-- The canonical text of a buildable expression is accepted, as that expression in its places.
+use Rattle.std.proofs.Common.{◌≡◌, refl, sym, ◌∙◌, ap, subst, ℕ, suc, ◌+◌, List, [], ◌∷◌, max, min, length, Option, None, arith}
 use Rattle.expr_reader.specs.declared.signature.Signature.{Signature}
-use Rattle.expr_reader.specs.declared.fault.ExprFault.TheVariants.{NeedsAlignment}
 use Rattle.expr_reader.specs.declared.token.Name.{Name}
 use Rattle.expr_reader.specs.declared.node.Head.TheVariants.{Number, Chosen}
 use Rattle.expr_reader.specs.Signatures.{takes, inner, after_number, after_choice, after_layer}
 use Rattle.expr_reader.specs.Tokens.{tokens}
 use Rattle.expr_reader.specs.Trees.{Tree, leaf, node, Args, last, number, choice, layer}
 use Rattle.expr_reader.specs.Grammar.{Fits, FitsIn, depth, greatest_depth}
-use Rattle.expr_reader.specs.Flaws.{heads, alignment, least_alignment, word_alignment, needs, keeps_ranges, gives, broken, head_places, first_place, layer_flaws, flaws, flaws_in, size, starts}
+use Rattle.expr_reader.specs.Flaws.{heads, alignment, least_alignment, word_alignment, needs, keeps_ranges, gives, starts}
 use Rattle.expr_reader.specs.Canonical.{word_text, choice_text, numeral, canonical, in_place, args_in_place}
 use Rattle.expr_reader.specs.Answers.{IsAccepted}
+use Rattle.expr_reader.specs.Buildable.{ArePassed, KeepsRules, AllKeepRules, AllKeepRulesIn, IsBuildable}
 use Rattle.expr_reader.specs.ShapeOf.{shape_of, shapes, layer_shape, leaf_count, leaf_count_in}
-use Rattle.expr_reader.proofs.Builds.{neither, both_empty, kept-again, broken-nowhere}
+use Rattle.expr_reader.proofs.Builds.{keeps-flawless, accepted-buildable}
 use Rattle.expr_reader.proofs.Texts.{canonical_spells}
 
 -- where what stands between the parentheses begins
@@ -87,38 +87,36 @@ mutual
   in_place-shapes (layer e args) at made =
       (λ i. in_place-shape e at made i ∷ shapes (args_in_place (behind at (canonical e)) args) (made + in_place-leaves e at i)) ∙ ap (λ ss. shape_of e made ∷ ss) (in_place-shapes args (behind at (canonical e)) (made + leaf_count e))
 
--- ---- nor a flaw
+-- ---- nor what is kept
 
-layer_again : (k : Name) (args : Args) (at : ℕ) (given : Option ℕ) (ps qs : List ℕ) → layer_flaws given k args ps ≡ [] → layer_flaws given k (args_in_place at args) qs ≡ []
-layer_again k args at given ps qs =
-    kept-again (nat_le (needs k (heads args)) (least_alignment args)) (nat_le (needs k (heads (args_in_place at args))) (least_alignment (args_in_place at args)))
-    (NeedsAlignment (first_place args)) (NeedsAlignment (first_place (args_in_place at args)))
-    (broken (keeps_ranges k given (heads args)) (head_places args ps)) (broken (keeps_ranges k given (heads (args_in_place at args))) (head_places (args_in_place at args) qs))
-    (λ i. nat_le (needs k (in_place-heads args at i)) (in_place-alignment_in args at i))
-    (λ h. ap (λ hs. broken (keeps_ranges k given hs) (head_places (args_in_place at args) qs)) (in_place-heads args at) ∙ broken-nowhere (keeps_ranges k given (heads args)) (head_places args ps) (head_places (args_in_place at args) qs) h)
+kept_again : (k : Name) (args : Args) (at : ℕ) (given : Option ℕ) → KeepsRules given k args → KeepsRules given k (args_in_place at args)
+kept_again k args at given h =
+    let same = in_place-heads args at in
+    record {
+      in_range = subst (λ hs. ArePassed (keeps_ranges k given hs)) (sym same) h.in_range;
+      aligned = omega (arith, h.aligned, ap (λ hs. needs k hs) same, in_place-alignment_in args at);
+    }
 
 mutual
-  flawless-again : (e : Tree) (at : ℕ) (given : Option ℕ) (ps qs : List ℕ) → flaws given e ps ≡ [] → flaws given (in_place at e) qs ≡ []
-  flawless-again (leaf old k) at given ps qs h = refl
-  flawless-again (node old k args) at given ps qs h =
-      let inner = args_in_place (inside at k) args in
-      let parts = neither (layer_flaws given k args (drop 2 ps)) (flaws_in (gives k (heads args)) args (drop 2 ps)) h in
-      both_empty (layer_flaws given k inner (drop 2 qs)) (flaws_in (gives k (heads inner)) inner (drop 2 qs)) (layer_again k args (inside at k) given (drop 2 ps) (drop 2 qs) parts.0)
-      (ap (λ hs. flaws_in (gives k hs) inner (drop 2 qs)) (in_place-heads args (inside at k)) ∙ flawless-again_in args (inside at k) (gives k (heads args)) (drop 2 ps) (drop 2 qs) parts.1)
+  in_place-keeps : (e : Tree) (at : ℕ) (given : Option ℕ) → AllKeepRules given e → AllKeepRules given (in_place at e)
+  in_place-keeps (leaf old k) at given h = tt
+  in_place-keeps (node old k args) at given h =
+      let below = in_place-keeps_in args (inside at k) (gives k (heads args)) h.1 in
+      (kept_again k args (inside at k) given h.0, subst (λ hs. AllKeepRulesIn (gives k hs) (args_in_place (inside at k) args)) (sym (in_place-heads args (inside at k))) below)
 
-  flawless-again_in : (args : Args) (at : ℕ) (given : Option ℕ) (ps qs : List ℕ) → flaws_in given args ps ≡ [] → flaws_in given (args_in_place at args) qs ≡ []
-  flawless-again_in (last e) at given ps qs h = flawless-again e at given ps qs h
-  flawless-again_in (number n args) at given ps qs h = flawless-again_in args (at + length (numeral n)) given (drop 2 ps) (drop 2 qs) h
-  flawless-again_in (choice c args) at given ps qs h = flawless-again_in args (behind at (choice_text c)) given (drop 2 ps) (drop 2 qs) h
-  flawless-again_in (layer e args) at given ps qs h =
-      let parts = neither (flaws given e ps) (flaws_in given args (drop (size e + 1) ps)) h in
-      both_empty (flaws given (in_place at e) qs) (flaws_in given (args_in_place (behind at (canonical e)) args) (drop (size (in_place at e) + 1) qs)) (flawless-again e at given ps qs parts.0)
-      (flawless-again_in args (behind at (canonical e)) given (drop (size e + 1) ps) (drop (size (in_place at e) + 1) qs) parts.1)
+  in_place-keeps_in : (args : Args) (at : ℕ) (given : Option ℕ) → AllKeepRulesIn given args → AllKeepRulesIn given (args_in_place at args)
+  in_place-keeps_in (last e) at given h = in_place-keeps e at given h
+  in_place-keeps_in (number n args) at given h = in_place-keeps_in args (at + length (numeral n)) given h
+  in_place-keeps_in (choice c args) at given h = in_place-keeps_in args (behind at (choice_text c)) given h
+  in_place-keeps_in (layer e args) at given h = (in_place-keeps e at given h.0, in_place-keeps_in args (behind at (canonical e)) given h.1)
+
+pub buildable_again : (e : Tree) → IsBuildable e → IsAccepted (canonical e) (in_place 0 e)
+buildable_again e b =
+    let spells = canonical_spells e b.fits (in_place 0 e) in
+    record {
+      reads = record { spelled = spells.1 refl; fits = in_place-fits e 0 b.fits; shallow = omega (arith, in_place-depth e 0, b.shallow) };
+      flawless = keeps-flawless (in_place 0 e) None (starts (tokens (canonical e))) (in_place-keeps e 0 None b.keeps);
+    }
 
 pub accepted_again : (text : List ℕ) (e : Tree) → IsAccepted text e → IsAccepted (canonical e) (in_place 0 e)
-accepted_again text e a =
-    let spells = canonical_spells e a.reads.fits (in_place 0 e) in
-    record {
-      reads = record { spelled = spells.1 refl; fits = in_place-fits e 0 a.reads.fits; shallow = omega (arith, in_place-depth e 0, a.reads.shallow) };
-      flawless = flawless-again e 0 None (starts (tokens text)) (starts (tokens (canonical e))) a.flawless;
-    }
+accepted_again text e a = buildable_again e (accepted-buildable text e a)

@@ -1,6 +1,6 @@
 -- What is proved of each word: where its numbers are allowed, it stands for a composition over whatever composition is below it.
 use Rattle.std.proofs.Common.{◌≡◌, refl, sym, inl, inr, ap, subst, ℕ, zero, suc, ◌+◌, ◌≤◌, ◌<◌, Bool, true, false, ◌&&◌, nat_le, List, [], ◌∷◌, None, arith}
-use Rattle.std.specs.Bool.{⊤}
+use Rattle.std.proofs.lemmas.Bool.{le-leb}
 use Rattle.std.proofs.lemmas.Bool.Decides.{nat_tests}
 use Rattle.size_round.specs.Sizes.{is_between, is_power_of_two, size_bound}
 use Rattle.layer_rules.specs.NullRules.{null_rules}
@@ -23,6 +23,7 @@ use Rattle.expr_reader.specs.Trees.{Tree, Args, last, number, choice, layer}
 use Rattle.expr_reader.specs.Grammar.{FitsIn, depth, greatest_depth}
 use Rattle.expr_reader.specs.Faults.{most_layers}
 use Rattle.expr_reader.specs.Flaws.{heads, alignment, least_alignment, word_alignment, needs, keeps_ranges}
+use Rattle.expr_reader.specs.Buildable.{ArePassed, KeepsRules}
 use Rattle.expr_reader.specs.ShapeOf.{leaf_shape, leaves_of, layer_shape, leaf_count, leaf_count_in, shape_of, shapes}
 use Rattle.expr_reader.proofs.Nothing.{nothing_fits}
 
@@ -37,15 +38,10 @@ pub record Means (s : Shape) (align deep count made : ℕ) : Type 0 where
   pub next : (tag : ℕ) → IsLeaf (rules_of s) tag → (made < tag) × (tag ≤ made + count)
   pub single : count ≤ 1
 
--- each test is passed
-abbrev pub ArePassed : List Bool → Type 0
-ArePassed [] = ⊤
-ArePassed (b ∷ bs) = (b ≡ true) × ArePassed bs
-
 -- with these numbers the word has such a meaning over each shape that has one
 abbrev KeepsMeaning : Name → List Head → Type 0
 KeepsMeaning k hs =
-    (s : Shape) (align deep count made : ℕ) → ArePassed (keeps_ranges k None hs) → nat_le (needs k hs) align ≡ true → Means s align deep count made
+    (s : Shape) (align deep count made : ℕ) → ArePassed (keeps_ranges k None hs) → needs k hs ≤ align → Means s align deep count made
     → Means (layer_shape k hs (s ∷ [])) (word_alignment k hs align) (suc deep) count made
 
 -- ---- word by word
@@ -77,7 +73,7 @@ region-means size align s below deep count made kept enough m =
       aligned = refl;
       layers = ap (λ n. suc n) m.layers;
       nodes = omega (arith, nodes);
-      proper = proper-region (is_between 1 size_bound size) (is_between 1 4096 align) (is_power_of_two align) (nat_le align below) _ _ kept.0 kept.1.0 enough (ap (λ n. nat_le align n) m.aligned) m.proper;
+      proper = proper-region (is_between 1 size_bound size) (is_between 1 4096 align) (is_power_of_two align) (nat_le align below) _ _ kept.0 kept.1.0 (le-leb align below enough) (ap (λ n. nat_le align n) m.aligned) m.proper;
       lawful = m.lawful;
       distinct = m.distinct;
       next = m.next;
@@ -115,20 +111,15 @@ one-below (choice c args) n made P w f m = absurd (nothing_fits args f)
 one-below (layer e args) zero made P w f m = absurd (nothing_fits args f.1)
 one-below (layer e args) (suc n) made P w f m = absurd (nothing_fits args f.1)
 
--- what the arguments keep that the layer's own flaws speak of
-pub record AreKept (k : Name) (args : Args) : Type 0 where
-  pub ranges : ArePassed (keeps_ranges k None (heads args))
-  pub enough : nat_le (needs k (heads args)) (least_alignment args) ≡ true
-
 abbrev LayerMeans : Name → Args → (made : ℕ) → Type 0
 LayerMeans k args made = Means (layer_shape k (heads args) (shapes args made)) (word_alignment k (heads args) (least_alignment args)) (suc (greatest_depth args)) (leaf_count_in args) made
 
-over-means : (k : Name) (args : Args) (made : ℕ) → OneBelow args made (KeepsMeaning k) → AreKept k args → LayerMeans k args made
+over-means : (k : Name) (args : Args) (made : ℕ) → OneBelow args made (KeepsMeaning k) → KeepsRules None k args → LayerMeans k args made
 over-means k args made r kept =
     subst (λ ss. Means (layer_shape k (heads args) ss) (word_alignment k (heads args) (least_alignment args)) (suc (greatest_depth args)) (leaf_count_in args) made) (sym r.only)
-    (r.holds r.shape (least_alignment args) (greatest_depth args) (leaf_count_in args) made kept.ranges kept.enough r.means)
+    (r.holds r.shape (least_alignment args) (greatest_depth args) (leaf_count_in args) made kept.in_range kept.aligned r.means)
 
-pub layer-means : (k : Name) (args : Args) (made : ℕ) → FitsIn args (inner (takes k)) → AllMean args made → AreKept k args → LayerMeans k args made
+pub layer-means : (k : Name) (args : Args) (made : ℕ) → FitsIn args (inner (takes k)) → AllMean args made → KeepsRules None k args → LayerMeans k args made
 layer-means name.Region args made f m = over-means name.Region args made (one-below args 2 made (KeepsMeaning name.Region) region-means f m)
 layer-means k args made f m = absurd (nothing_fits args f)
 
@@ -136,19 +127,16 @@ layer-means k args made f m = absurd (nothing_fits args f)
 
 -- a layer of this word may stand over its arguments
 pub record MayStand (k : Name) (args : Args) (made : ℕ) : Type 0 where
-  pub kept : AreKept k args
+  pub kept : KeepsRules None k args
   pub below : AllMean args made
   pub shallow : suc (greatest_depth args) ≤ most_layers
 
 sized : (n low high : ℕ) → is_between low high n ≡ true → (low ≤ n) × (n ≤ high)
 sized n low high h = (grind (arith, nat_tests), grind (arith, nat_tests))
 
-at-least : (n a : ℕ) → nat_le a n ≡ true → a ≤ n
-at-least n a h = grind (arith, nat_tests)
-
 pub region-proper : (size align : ℕ) (e : Tree) (made : ℕ) (r : Rules) → r ≡ rules_of (shape_of e made) → MayStand name.Region (number size (number align (last e))) made → IsProper size align r
 region-proper size align e made r is m =
-    let ranges = m.kept.ranges in
+    let ranges = m.kept.in_range in
     let size_in = sized size 1 size_bound ranges.0 in
     let align_in = sized align 1 4096 (and-fst (is_between 1 4096 align) (is_power_of_two align) ranges.1.0) in
     subst (IsProper size align) (sym is)
@@ -158,7 +146,7 @@ region-proper size align e made r is m =
       align_some = align_in.0;
       align_most = align_in.1;
       power = and-snd (is_between 1 4096 align) (is_power_of_two align) ranges.1.0;
-      aligned = omega (arith, at-least (alignment e) align m.kept.enough, m.below.aligned);
+      aligned = omega (arith, m.kept.aligned, m.below.aligned);
       depth = omega (arith, m.below.layers, m.shallow);
       few = omega (arith, m.below.nodes, m.shallow);
     })

@@ -13,4 +13,5 @@ pub mod Printing
 pub mod Descent
 pub mod Nodes
 pub mod ShapeOf
+pub mod Buildable
 pub mod Sound

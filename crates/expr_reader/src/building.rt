@@ -1,14 +1,14 @@
-//! Building: from an expression that was accepted to a closed composition of layers.
+//! Building: from an expression to a closed composition of layers.
 
-ghost use Rattle.std.specs.Prelude.{◌≡◌, ℕ, ◌+◌, ◌≤◌, List, IfOk};
+ghost use Rattle.std.specs.Prelude.{◌≡◌, ℕ, ◌+◌, ◌≤◌, IfOk};
 ghost use Rattle.space_core.specs.Memory.{most_leaves};
 ghost use Rattle.layer_rules.specs.Layering.{IsShut};
 ghost use Rattle.shapes.specs.RulesOf.{rules_of};
 ghost use Rattle.expr_reader.specs.Trees.{tree_of};
 ghost use Rattle.expr_reader.specs.Grammar.{depth};
-ghost use Rattle.expr_reader.specs.Answers.{IsAccepted};
+ghost use Rattle.expr_reader.specs.Buildable.{IsBuildable};
 ghost use Rattle.expr_reader.specs.ShapeOf.{shape_of};
-ghost use Rattle.expr_reader.specs.Sound.{IsBuildable, leaf_count, with_leaves, AcceptedAreCompositions};
+ghost use Rattle.expr_reader.specs.Sound.{leaf_count, with_leaves, AcceptedAreCompositions, BuildableAreCompositions};
 
 use crate::tree::{Expr, Form};
 use composition::{Composition, Leaf, LowerHalf, Over, Over4};
@@ -84,8 +84,8 @@ impl Level for LowerHalf {
 /// # Errors
 /// `NoMemory` where the process has no memory left. The Space has made the leaves then too.
 pub fn build(alloc: Global, expr: &Expr, space: &mut Space) -> Result<Composition, NoMemory>
-    // The expression is one that `read` answers.
-    requires accepted { (text : List ℕ) × IsAccepted text (tree_of expr.now) }
+    // Read or made by hand: words of the grammar that keep their rules, on no path too many.
+    requires buildable { IsBuildable (tree_of expr.now) }
     // The Space has room for its leaves.
     requires leaves { space.old.leaves + leaf_count (tree_of expr.now) ≤ most_leaves }
     ensures rules { IfOk result (λ t. (⟦<Composition as Layer>⟧.model t).rules ≡ rules_of (shape_of (tree_of expr.now) space.old.leaves)) }
@@ -96,8 +96,13 @@ pub fn build(alloc: Global, expr: &Expr, space: &mut Space) -> Result<Compositio
     Composition::build(alloc, expr, space)
 }
 
-/// An expression that was accepted stands for a composition within its bounds, whose rules are lawful. Its leaves are the next that
-/// the Space makes, each once.
+/// A buildable expression stands for a composition within its bounds, whose rules are lawful. Its leaves are the next that the
+/// Space makes, each once.
+pub fn buildable_are_compositions()
+    ensures { BuildableAreCompositions }
+{}
+
+/// So does an expression that was accepted.
 pub fn accepted_are_compositions()
     ensures { AcceptedAreCompositions }
 {}

@@ -16,7 +16,7 @@ mod token;
 mod tree;
 mod words;
 
-pub use building::{accepted_are_compositions, build};
+pub use building::{accepted_are_compositions, build, buildable_are_compositions};
 pub use fault::ExprFault;
 pub use printing::{canonical_is_accepted, canonical_is_read, print};
 pub use reading::{each_text_is_read_once, read};

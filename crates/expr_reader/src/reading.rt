@@ -7,6 +7,7 @@ ghost use Rattle.expr_reader.specs.Signatures as signatures;
 ghost use Rattle.expr_reader.specs.Trees as trees;
 ghost use Rattle.expr_reader.specs.Trees.{Tree, tree_of};
 ghost use Rattle.expr_reader.specs.Answers.{IsAccepted, HasFault, IsFaultOrNoMemory, FailsWith, Gives, AnswersAreReadings, EachTextIsReadOnce};
+ghost use Rattle.expr_reader.specs.Buildable.{IsBuildable};
 ghost use Rattle.expr_reader.specs.declared.fault.ExprFault.{ExprFault};
 
 use crate::fault::ExprFault;
@@ -258,6 +259,8 @@ fn answer(alloc: Global, text: &[u8]) -> Result<Expr, ExprFault>
 pub fn read(alloc: Global, text: &str) -> Result<Expr, ExprFault>
     // What is answered is spelled by the text, and has no flaw.
     ensures sound { IfOk result (λ e. IsAccepted text.now (tree_of e)) }
+    // So `build` takes what is answered.
+    ensures buildable { IfOk result (λ e. IsBuildable (tree_of e)) }
     // What the text spells without a flaw is answered.
     ensures complete { (e : Tree) → IsAccepted text.now e → Gives e result }
     // A fault comes only where it stands.

@@ -1,3 +1,6 @@
+ghost use Rattle.expr_reader.specs.Buildable.{IsBuildable};
+ghost use Rattle.expr_reader.specs.Trees.{tree_of};
+
 use super::*;
 use layer_core::Layer;
 use space_core::Space;
@@ -153,18 +156,16 @@ fn other_forms(rt: HostRuntime) -> Result<(), Fail> {
     Ok(())
 }
 
-/// How many nodes the composition of a text has, the alignment of its blocks in bytes, and how many leaves it takes.
-fn built(rt: &impl Abort, alloc: Global, text: &str) -> Result<[u64; 3], Fail> {
+/// How many nodes the composition of an expression has, the alignment of its blocks in bytes, and how many leaves it takes.
+fn built(rt: &impl Abort, alloc: Global, expr: &Expr) -> Result<[u64; 3], Fail>
+    requires { IsBuildable (tree_of expr.now) }
+{
+    buildable_are_compositions();
     let mut space = Space::closed();
-    match read(alloc, text) {
-        Ok(expr) => {
-            let layers = build(alloc, &expr, &mut space).map_err(|_| "out of memory")?;
-            assert!(rt; !layers.is_open());
-            let leaves = u64::from(space.leaves());
-            Ok([u64::from(layers.nodes()), layers.alignment(), leaves])
-        }
-        Err(_) => Err("no expression".into()),
-    }
+    let layers = build(alloc, expr, &mut space).map_err(|_| "out of memory")?;
+    assert!(rt; !layers.is_open());
+    let leaves = u64::from(space.leaves());
+    Ok([u64::from(layers.nodes()), layers.alignment(), leaves])
 }
 
 #[test]
@@ -180,7 +181,31 @@ fn compositions(rt: HostRuntime) -> Result<(), Fail> {
         ),
     ];
     for (text, facts) in &table {
-        assert_eq!(rt; built(&rt, rt.alloc(), text)?, *facts);
+        let Ok(expr) = read(rt.alloc(), text) else {
+            return Err("no expression".into());
+        };
+        assert_eq!(rt; built(&rt, rt.alloc(), &expr)?, *facts);
     }
+    Ok(())
+}
+
+#[test]
+fn composition_made_by_hand(rt: HostRuntime) -> Result<(), Fail> {
+    let cells = Expr {
+        at: 0,
+        form: Form::Mem,
+    };
+    let Ok(parent) = Box::new(rt.alloc(), cells) else {
+        return Err("out of memory".into());
+    };
+    let expr = Expr {
+        at: 0,
+        form: Form::Region {
+            size: 1024,
+            align: 16,
+            parent,
+        },
+    };
+    assert_eq!(rt; built(&rt, rt.alloc(), &expr)?, [2, 16, 1]);
     Ok(())
 }

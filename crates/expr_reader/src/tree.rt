@@ -10,7 +10,7 @@ use std::alloc::Global;
 #[cycle(tree)]
 #[derive(Drop)]
 pub struct Expr {
-    /// The offset in the text of the first letter of the layer's word, in bytes.
+    /// The offset in the text of the first letter of the layer's word, in bytes. Any number, where there is no text.
     pub at: u64,
     pub form: Form,
 }

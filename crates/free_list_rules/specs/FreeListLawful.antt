@@ -23,6 +23,7 @@ unfolding free_list_rules
 free_list-keeping least greatest e r t p =
     let f = free_list_rules least greatest e in
     let some = λ (b : Block) (s : State) (cells : Cells) (o : f.is_out b s cells ≡ true). (out-free_list least greatest e b s cells o).some in
+    let taking = free_list-taking least greatest e t in
     record {
       out_some = some;
       out_open = λ b s cells o. some-open (is_open s) _ _ o;
@@ -31,7 +32,7 @@ free_list-keeping least greatest e r t p =
       grown = free_list-grown least greatest e p.grown;
       emptied = free_list-emptied least greatest e p.emptied;
       reallocated = generally-reallocated f (free_list_offers e.offers)
-          (record { some = some; takes = (free_list-taking least greatest e t).allocate; good = free_list-good least greatest e p.good; freed = free_list-freed least greatest e p.freed; grown = free_list-grown least greatest e p.grown });
+          (record { some = some; takes = taking.allocate; gives = taking.deallocate_count; good = free_list-good least greatest e p.good; freed = free_list-freed least greatest e p.freed; grown = free_list-grown least greatest e p.grown });
       aligned = λ n a s cells q l o h. refuse-aligned (free_list_rules least greatest e) n a s cells o h;
       owned = free_list-owned least greatest e r p.owned;
     }

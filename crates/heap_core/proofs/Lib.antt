@@ -3,6 +3,9 @@ pub mod HeldLemmas
 pub mod NameLemmas
 pub mod RunSteps
 pub mod Stepping
+pub mod Serving
+pub mod Changing
+pub mod Asking
 pub mod WorldLemmas
 pub mod RunAnswers
 pub mod RunBlocks

@@ -1,5 +1,5 @@
 -- What a look-up finds in a table of names, and what an edit at a place does.
-use Rattle.std.proofs.Common.{◌≡◌, ℕ, zero, suc, ◌+◌, ◌*◌, ◌^◌, ◌<◌, ◌≤◌, ◌≢◌, List, [], ◌∷◌, length, get_or, take, Some, None, Result, Ok, Err, IfOk, IfErr, refl, sym, ap, arith}
+use Rattle.std.proofs.Common.{◌≡◌, ℕ, zero, suc, ◌+◌, ◌*◌, ◌^◌, ◌<◌, ◌≤◌, ◌≢◌, List, [], ◌∷◌, length, get_or, take, Some, None, Result, Ok, Err, IfOk, IfErr, is_some, Bool, true, false, not, nat_eq, nat_lt, cond, if◌then◌else◌, refl, sym, ap, subst, ◌∙◌, arith}
 use Rattle.std.specs.List.{insert, remove, sum_by}
 use Rattle.std.specs.List.Sorted.{IsSearchInRange, IsBinarySearchResult, IsNonDecreasingBy}
 use Rattle.std.specs.Ordering.{nat_cmp, ordering_index}
@@ -9,14 +9,15 @@ use Rattle.std.proofs.lemmas.List.Edits.{length-remove, get_or-remove_below, get
 use Rattle.std.proofs.lemmas.Bool.Decides.{nat_tests}
 use Rattle.std.proofs.lemmas.List.Sums.{sum_by_more_le, sum_by-cons}
 use Rattle.size_round.specs.Sizes.{limit}
+use Rattle.layer_rules.specs.declared.Block.{Block}
 use Rattle.layer_rules.specs.Blocks.{no_block}
 use Rattle.layer_rules.specs.Rows.{Each}
 use Rattle.heap_core.specs.declared.Named.{Named}
-use Rattle.heap_core.specs.Names.{named_at, with_named, without_name, name_at, IsTable, IsAt, IsGapFor}
+use Rattle.heap_core.specs.Names.{named, named_at, with_named, without_name, name_at, IsTable, IsAt, IsGapFor}
 
 -- what is read past the end
 abbrev pub past_end : Named
-past_end = record { name = 0; block = no_block }
+past_end = named 0 no_block
 
 abbrev pub IsRising : List Named → Type 0
 IsRising l = (i j : ℕ) → i < j → j < length l → name_at l i < name_at l j
@@ -148,3 +149,60 @@ sum-fits f l i total h short e lt =
 pub without-absent : (l : List Named) (k : ℕ) → named_at l k ≡ None → without_name k l ≡ l
 without-absent [] k h = refl
 without-absent (x ∷ l) k h = grind (arith, nat_tests, without-absent l k)
+
+-- ---- a block under a name that is live
+
+-- a name that is found is greater than what all names are greater than
+found-above : (n : ℕ) (l : List Named) (k : ℕ) (b : Block) → ((i : ℕ) → i < length l → n < name_at l i) → named_at l k ≡ Some b → n < k
+found-above n [] k b h e = absurd (cc)
+found-above n (x ∷ l) k b h e = grind (arith, nat_tests, h 0 (omega arith), found-above n l k b (λ i lt. h (suc i) (omega arith)))
+
+with-least : (x : Named) (l : List Named) → ((i : ℕ) → i < length l → x.name < name_at l i) → with_named x l ≡ x ∷ l
+with-least x [] h = refl
+with-least x (y ∷ l) h = grind (arith, nat_tests, h 0 (omega arith))
+
+-- taken out and put in again it is the same table
+pub named-back : (l : List Named) (k : ℕ) (b : Block) → IsRising l → named_at l k ≡ Some b → with_named (named k b) (without_name k l) ≡ l
+named-back [] k b rising e = absurd (cc)
+named-back (x ∷ l) k b rising e = back-by (nat_eq x.name k) refl e (λ q. named-back l k b (rising_tail x l rising) q)
+  where
+    above : (i : ℕ) → i < length l → x.name < name_at l i
+    above i lt = rising 0 (suc i) (omega arith) (omega arith)
+
+    back-by : (t : Bool) → nat_eq x.name k ≡ t → (if t then Some x.block else named_at l k) ≡ Some b
+        → (named_at l k ≡ Some b → with_named (named k b) (without_name k l) ≡ l)
+        → with_named (named k b) (cond (not t) (x ∷ without_name k l) (without_name k l)) ≡ x ∷ l
+    back-by true q e back =
+        let same : x.name ≡ k = grind (arith, nat_tests) in
+        let block : x.block ≡ b = cc in
+        let new = named k b in
+        let is : x ≡ new = ap (λ n. let y : Named = record { name = n; block = x.block } in y) same ∙ ap (λ c. let y : Named = record { name = k; block = c } in y) block in
+        let rest : without_name k l ≡ l = without_greater l k (λ j lt p. omega (arith, above j lt)) in
+        ap (with_named new) rest ∙ (subst (λ (y : Named). with_named y l ≡ x ∷ l) is (with-least x l above))
+    back-by false q e back =
+        let less : x.name < k = found-above x.name l k b above e in
+        let later : nat_lt k x.name ≡ false = grind (arith, nat_tests) in
+        ap (λ t. if t then named k b ∷ x ∷ without_name k l else x ∷ with_named (named k b) (without_name k l)) later ∙ ap (λ xs. x ∷ xs) (back e)
+
+length-without_name : (l : List Named) (k : ℕ) → length (without_name k l) ≤ length l
+length-without_name [] k = omega arith
+length-without_name (x ∷ l) k = no_more (not (nat_eq x.name k)) (length-without_name l k)
+  where
+    no_more : (t : Bool) → length (without_name k l) ≤ length l → length (cond t (x ∷ without_name k l) (without_name k l)) ≤ length (x ∷ l)
+    no_more true h = omega arith
+    no_more false h = omega arith
+
+-- without it there is an entry less
+pub without-fewer : (l : List Named) (k : ℕ) → is_some (named_at l k) ≡ true → length (without_name k l) < length l
+without-fewer [] k e = absurd (cc)
+without-fewer (x ∷ l) k e = fewer-by (nat_eq x.name k) e (without-fewer l k)
+  where
+    fewer-by : (t : Bool) → is_some (if t then Some x.block else named_at l k) ≡ true → (is_some (named_at l k) ≡ true → length (without_name k l) < length l)
+        → length (cond (not t) (x ∷ without_name k l) (without_name k l)) < length (x ∷ l)
+    fewer-by true e more = omega (arith, length-without_name l k)
+    fewer-by false e more = omega (arith, more e)
+
+-- and it isn't live
+pub without-none : (l : List Named) (k : ℕ) → named_at (without_name k l) k ≡ None
+without-none [] k = refl
+without-none (x ∷ l) k = grind (arith, nat_tests, without-none l k)

@@ -1,34 +1,44 @@
 -- What a call does to a run that a heap can be in.
-use Rattle.std.proofs.Common.{[], Ok, ◌≡◌, subst, ◌≢◌, refl, sym, ap, ◌∙◌, ℕ, Bool, true, false, nat_le, length, replicate, Option, Some, None, is_some, Err, IfOk, arith}
+use Rattle.std.proofs.Common.{[], Ok, ◌≡◌, subst, ◌≢◌, refl, sym, ap, ◌∙◌, ℕ, ◌+◌, Bool, true, false, nat_le, inl, inr, List, length, replicate, Option, Some, None, is_some, Err, IfOk, arith}
+use Rattle.std.proofs.lemmas.Bool.Decides.{nat_tests}
+use Rattle.std.specs.List.{slice_range}
+use Rattle.size_round.specs.PowerLaws.{powers_pass}
 use Rattle.space_core.specs.Cells.{Cells}
+use Rattle.space_core.specs.Words.{write_from}
+use Rattle.layer_rules.specs.declared.Asked.{Asked}
+use Rattle.layer_rules.specs.declared.Asked.TheVariants as asked
 use Rattle.layer_rules.specs.declared.Block.{Block}
-use Rattle.layer_rules.specs.Blocks.{block, is_apart}
+use Rattle.layer_rules.specs.Blocks.{block, lies_in, is_apart}
 use Rattle.layer_rules.specs.Rows.{Each, EachPair}
-use Rattle.layer_rules.specs.Rules.{Rules, HasSomeTags, HasDistinctTags, HasMadeTags, HasNoCells, IsSettled}
+use Rattle.layer_rules.specs.Rules.{Rules, HasSomeTags, HasDistinctTags, HasMadeTags, HasNoCells, IsSettled, AreApart, longer_if, owns_along}
+use Rattle.layer_rules.specs.Layering.{is_done}
 use Rattle.layer_rules.specs.State.{State, is_open}
-use Rattle.layer_rules.specs.After.{After, Placed, Opened}
+use Rattle.layer_rules.specs.After.{After, Placed, Opened, Reallocated, moved_to, emptied, unmoved}
 use Rattle.layer_laws.specs.BlockLaws.{inside-of}
 use Rattle.layer_laws.specs.CellRooms.{rest_of_multiple}
 use Rattle.layer_laws.specs.StandingLaws.{out-in_range}
 use Rattle.layer_laws.specs.Tests.{no-cell, none-all}
-use Rattle.layer_laws.specs.Lawful.{IsGood, IsLawful, IsMade}
+use Rattle.layer_laws.specs.Lawful.{IsGood, IsGrown, IsReallocated, IsLawful, IsMade}
+use Rattle.heap_core.specs.declared.Answer.{Answer}
 use Rattle.heap_core.specs.declared.Call.{Call}
-use Rattle.heap_core.specs.declared.Call.TheVariants.{Allocate, Free}
+use Rattle.heap_core.specs.declared.Call.TheVariants.{Allocate, Aligned, Expand, Reallocate, Free, FreeAll, Owns, OwnsAt, Good, Write, Read}
 use Rattle.heap_core.specs.declared.CallFault.{CallFault}
-use Rattle.heap_core.specs.declared.CallFault.TheVariants.{NameLive, NameNotLive, TooManyLive}
-use Rattle.heap_core.specs.World.{World, Live, live, live_at, with_live, without}
-use Rattle.heap_core.specs.Performing.{Run, run_of, most_live, Performed, placed_under, allocated_unless, freed, performed}
-use Rattle.heap_core.specs.Moves.{Moves}
+use Rattle.heap_core.specs.declared.CallFault.TheVariants.{NameLive, NameNotLive, TooManyLive, OutOfBlock, NotOffered, NotServing, NoSuchLayer}
+use Rattle.heap_core.specs.World.{World, Live, live, live_at, with_live, without, replaced, resized}
+use Rattle.heap_core.specs.Performing.{IsCall, Run, run_of, most_live, Performed, under_new_name, on_live, if_offered, if_inside, placed_under, served, grown_under, grown, moved_under, moved, freed, all_freed, owned, asked_at, written, bytes_read, performed}
+use Rattle.heap_core.specs.Moves.{Places, Resizes, KeepsOthers, Moves}
 use Rattle.heap_core.specs.Steps.{IsHeldRun, BeginsHeld, PerformedHeld, PerformedMoves}
+use Rattle.heap_core.specs.declared.Answer.TheVariants as answers
 use Rattle.heap_core.proofs.ByteLemmas.{inner-apart, apart-flip}
 use Rattle.heap_core.proofs.WorldLemmas.{live-with_same, live-with_other, live-without_same, live-without_other, each-from, each-both, each_pair-from, each-live_with, each_pair-live_with, each-live_without, each_pair-live_without, each-live_at, each-live_other}
 
 -- what a call leaves: a run again, and where it is performed a step
-pub record IsStep (e : Rules) (count leaves : ℕ) (call : Call) (old : World) (p : Performed) : Type 0 where
+pub record IsStepBy (M : Answer → World → Type 0) (e : Rules) (count leaves : ℕ) (p : Performed) : Type 0 where
   pub held : IsHeldRun e count leaves p.1
-  pub moves : IfOk p.0 (λ answer. Moves e.alignment count old call answer p.1.world)
+  pub moves : IfOk p.0 (λ answer. M answer p.1.world)
 
--- a block in its extent
+abbrev pub IsStep : Rules → (count leaves : ℕ) → Call → World → Performed → Type 0
+IsStep e count leaves call old p = IsStepBy (Moves e.alignment count old call) e count leaves p
 
 module _ (e : Rules) (count leaves : ℕ) (r : Run) (h : IsHeldRun e count leaves r) where
   tags : HasSomeTags e
@@ -50,18 +60,33 @@ module _ (e : Rules) (count leaves : ℕ) (r : Run) (h : IsHeldRun e count leave
         (λ x y a. rw (same x.block, same y.block) a) apart;
   }
 
-  -- no block was served
-  none-step : (name size : ℕ) (x : After (Option Placed)) → IsGood e r.state r.cells size x → length x.cells.tags ≡ count
-      → IsStep e count leaves (Allocate name size) r.world (placed_under name r.world x.state x.cells None)
-  none-step name size x g n = record {
-    held = kept-run x.state x.cells r.world g.is_set g.settled n g.extents
-        (each-from (λ (y : Live). e.is_out y.block r.state r.cells ≡ true) (λ (y : Live). e.is_out y.block x.state x.cells ≡ true) r.world (λ y. g.stays y.block) h.out) h.apart;
-    moves = refl;
-  }
+  -- every live block stays out
+  same-run : (s : State) (cells : Cells) → is_open s ≡ true → IsSettled e s cells → length cells.tags ≡ count → ((b : Block) → e.extent b s ≡ e.extent b r.state)
+      → ((b : Block) → e.is_out b r.state r.cells ≡ true → e.is_out b s cells ≡ true) → IsHeldRun e count leaves (run_of s cells r.world)
+  same-run s cells o settled size same stays =
+      kept-run s cells r.world o settled size same
+      (each-from (λ (y : Live). e.is_out y.block r.state r.cells ≡ true) (λ (y : Live). e.is_out y.block s cells ≡ true) r.world (λ y. stays y.block) h.out) h.apart
 
-  some-step : (name size : ℕ) (x : After (Option Placed)) (p : Placed) → live_at r.world name ≡ None → IsGood e r.state r.cells size x → length x.cells.tags ≡ count → x.answer ≡ Some p
-      → IsStep e count leaves (Allocate name size) r.world (placed_under name r.world x.state x.cells (Some p))
-  some-step name size x p fresh g n q =
+  -- a fault changes nothing, nor does a call that only looks
+  fault-step : (M : Answer → World → Type 0) (f : CallFault) → IsStepBy M e count leaves (Err f, r)
+  fault-step M f = record { held = h; moves = tt }
+
+  look-step : (M : Answer → World → Type 0) (a : Answer) → M a r.world → IsStepBy M e count leaves (Ok a, r)
+  look-step M a m = record { held = h; moves = m }
+
+  -- ---- a new block
+
+  -- the step that a new block is, by what it needs of the block
+  abbrev MovesTo : (M : Answer → World → Type 0) (name size : ℕ) → Option Placed → Type 0
+  MovesTo M name size o = (p : Placed) → o ≡ Some p → (new : World) → Places e.alignment count r.world new name size p.block.place → M (answers.Placed p.block.place) new
+
+  none-step : (M : Answer → World → Type 0) → M answers.Null r.world → (name size : ℕ) (x : After (Option Placed)) → IsGood e r.state r.cells size x → length x.cells.tags ≡ count
+      → IsStepBy M e count leaves (placed_under name r.world x.state x.cells None)
+  none-step M m name size x g n = record { held = same-run x.state x.cells g.is_set g.settled n g.extents g.stays; moves = m }
+
+  some-step : (M : Answer → World → Type 0) (name size : ℕ) (x : After (Option Placed)) (p : Placed) → MovesTo M name size x.answer → live_at r.world name ≡ None → IsGood e r.state r.cells size x
+      → length x.cells.tags ≡ count → x.answer ≡ Some p → IsStepBy M e count leaves (placed_under name r.world x.state x.cells (Some p))
+  some-step M name size x p m fresh g n q =
       let b = p.block in
       let w = r.world in
       let new = live name b (replicate b.len 0) in
@@ -80,7 +105,7 @@ module _ (e : Rules) (count leaves : ℕ) (r : Run) (h : IsHeldRun e count leave
             (each-from (λ (y : Live). e.is_out y.block r.state r.cells ≡ true) (λ (y : Live). e.is_out y.block x.state x.cells ≡ true) w (λ y. g.stays y.block) h.out))
             (each_pair-live_with (λ (y z : Live). is_apart (e.extent y.block r.state) (e.extent z.block r.state) ≡ true) (λ y z. apart-flip (e.extent y.block r.state) (e.extent z.block r.state)) new w
             (each-from (λ (y : Live). e.is_out y.block r.state r.cells ≡ true) (λ (y : Live). is_apart (e.extent b r.state) (e.extent y.block r.state) ≡ true) w (λ y o. (g.fresh p q y.block o).either) h.out) h.apart);
-        moves = record {
+        moves = m p q (with_live new w) (record {
           fresh = fresh;
           some = let l = law.keeping.out_some b x.state x.cells out in omega (arith, l, len);
           fits = rw same (record {
@@ -90,53 +115,301 @@ module _ (e : Rules) (count leaves : ℕ) (r : Run) (h : IsHeldRun e count leave
           aligned = rest_of_multiple b.place e.alignment (law.placing.aligned b x.state x.cells g.settled out);
           now = rw (same, ← len) now;
           others = record { at = λ other ne. live-with_other new w other ne };
-        };
+        });
       }
 
-  served-step : (name size : ℕ) (x : After (Option Placed)) (o : Option Placed) → live_at r.world name ≡ None → IsGood e r.state r.cells size x → length x.cells.tags ≡ count → x.answer ≡ o
-      → IsStep e count leaves (Allocate name size) r.world (placed_under name r.world x.state x.cells o)
-  served-step name size x None fresh g n q = none-step name size x g n
-  served-step name size x (Some p) fresh g n q = some-step name size x p fresh g n q
+  served-step : (M : Answer → World → Type 0) → M answers.Null r.world → (name size : ℕ) (x : After (Option Placed)) (o : Option Placed) → MovesTo M name size x.answer → live_at r.world name ≡ None
+      → IsGood e r.state r.cells size x → length x.cells.tags ≡ count → x.answer ≡ o → IsStepBy M e count leaves (placed_under name r.world x.state x.cells o)
+  served-step M z name size x None m fresh g n q = none-step M z name size x g n
+  served-step M z name size x (Some p) m fresh g n q = some-step M name size x p m fresh g n q
 
-  -- a fault changes nothing
-  fault-step : (call : Call) (f : CallFault) → IsStep e count leaves call r.world (Err f, r)
-  fault-step call f = record { held = h; moves = tt }
-
-  allocate-step : (name size : ℕ) (o : Option Live) (many : Bool) → live_at r.world name ≡ o → IsStep e count leaves (Allocate name size) r.world (allocated_unless (is_some o) many e name size r)
-  allocate-step name size (Some x) many q = fault-step (Allocate name size) NameLive
-  allocate-step name size None true q = fault-step (Allocate name size) TooManyLive
+  allocate-step : (name size : ℕ) (o : Option Live) (many : Bool) → live_at r.world name ≡ o
+      → IsStep e count leaves (Allocate name size) r.world (under_new_name (is_some o) many r (served name r.world (e.allocate size r.state r.cells)))
+  allocate-step name size (Some x) many q = fault-step _ NameLive
+  allocate-step name size None true q = fault-step _ TooManyLive
   allocate-step name size None false q =
       let x = e.allocate size r.state r.cells in
-      served-step name size x x.answer q (law.keeping.good size r.state r.cells h.opened h.sound.settled) ((h.made.regular.taking.allocate size r.state r.cells).count ∙ h.size) refl
+      served-step (Moves e.alignment count r.world (Allocate name size)) refl name size x x.answer (λ p e new k. k) q (law.keeping.good size r.state r.cells h.opened h.sound.settled)
+      ((h.made.regular.taking.allocate size r.state r.cells).count ∙ h.size) refl
 
-  free-step : (name : ℕ) (o : Option Live) → live_at r.world name ≡ o → IsStep e count leaves (Free name) r.world (freed e name r o)
-  free-step name None q = fault-step (Free name) NameNotLive
+  aligned-step : (name size align : ℕ) (o : Option Live) (many offered : Bool) → live_at r.world name ≡ o → IsCall (Aligned name size align)
+      → IsStep e count leaves (Aligned name size align) r.world (under_new_name (is_some o) many r (if_offered offered r (served name r.world (e.aligned_allocate size align r.state r.cells))))
+  aligned-step name size align (Some x) many offered q c = fault-step _ NameLive
+  aligned-step name size align None true offered q c = fault-step _ TooManyLive
+  aligned-step name size align None false false q c = fault-step _ NotOffered
+  aligned-step name size align None false true q c =
+      let x = e.aligned_allocate size align r.state r.cells in
+      let g = law.keeping.aligned size align r.state r.cells ((powers_pass align).0 c.0) c.1 h.opened h.sound.settled in
+      served-step (Moves e.alignment count r.world (Aligned name size align)) refl name size x x.answer (λ p u new k. (k, rest_of_multiple p.block.place align (g.aligned p u))) q g.good
+      ((h.made.regular.taking.aligned_allocate size align r.state r.cells).count ∙ h.size) refl
+
+  -- ---- another block, or other bytes, under a live name
+
+  -- what the others of a live block are to it
+  others-of : (name : ℕ) (x : Live) → live_at r.world name ≡ Some x → Each (λ (y : Live). (e.is_out y.block r.state r.cells ≡ true) × AreApart e r.state x.block y.block) (without name r.world)
+  others-of name x q =
+      let R : Block → Block → Type 0 = λ c d. is_apart (e.extent c r.state) (e.extent d r.state) ≡ true in
+      each-live_without (λ (y : Live). (e.is_out y.block r.state r.cells ≡ true) × AreApart e r.state x.block y.block) name r.world
+      (each-both (λ (y : Live). e.is_out y.block r.state r.cells ≡ true) (λ (y : Live). y.name ≢ name → R x.block y.block)
+      (λ (y : Live). y.name ≢ name → (e.is_out y.block r.state r.cells ≡ true) × AreApart e r.state x.block y.block) r.world
+      (λ y o a ne. (o, record { either = a ne })) h.out (each-live_other R (λ c d. apart-flip (e.extent c r.state) (e.extent d r.state)) r.world name x h.apart q))
+
+  live_out : (name : ℕ) (x : Live) → live_at r.world name ≡ Some x → e.is_out x.block r.state r.cells ≡ true
+  live_out name x q = each-live_at (λ c. e.is_out c r.state r.cells ≡ true) r.world name x h.out q
+
+  -- what a call leaves that changes a live block alone
+  record Changes (was b : Block) (s : State) (cells : Cells) : Type 0 where
+    pub opened : is_open s ≡ true
+    pub settled : IsSettled e s cells
+    pub size : length cells.tags ≡ count
+    pub extents : (c : Block) → e.extent c s ≡ e.extent c r.state
+    pub out : e.is_out b s cells ≡ true
+    pub stays : (c : Block) → e.is_out c r.state r.cells ≡ true → AreApart e r.state was c → e.is_out c s cells ≡ true
+    pub fresh : (c : Block) → e.is_out c r.state r.cells ≡ true → AreApart e r.state was c → AreApart e r.state b c
+
+  changed-run : (name : ℕ) (x : Live) (b : Block) (bytes : List ℕ) (s : State) (cells : Cells) → live_at r.world name ≡ Some x → Changes x.block b s cells
+      → IsHeldRun e count leaves (run_of s cells (replaced (live name b bytes) r.world))
+  changed-run name x b bytes s cells q k =
+      let new = live name b bytes in
+      let w = without name r.world in
+      let Other : Live → Type 0 = λ y. (e.is_out y.block r.state r.cells ≡ true) × AreApart e r.state x.block y.block in
+      let R : Live → Live → Type 0 = λ y z. is_apart (e.extent y.block r.state) (e.extent z.block r.state) ≡ true in
+      let others = others-of name x q in
+      kept-run s cells (with_live new w) k.opened k.settled k.size k.extents
+      (each-live_with (λ (y : Live). e.is_out y.block s cells ≡ true) new w k.out (each-from Other (λ (y : Live). e.is_out y.block s cells ≡ true) w (λ y o. k.stays y.block o.0 o.1) others))
+      (each_pair-live_with R (λ y z. apart-flip (e.extent y.block r.state) (e.extent z.block r.state)) new w
+      (each-from Other (R new) w (λ y o. (k.fresh y.block o.0 o.1).either) others) (each_pair-live_without R name r.world h.apart))
+
+  others-kept : (name : ℕ) (new : Live) → new.name ≡ name → KeepsOthers name r.world (with_live new (without name r.world))
+  others-kept name new n = record { at = λ other ne. live-with_other new (without name r.world) other (λ z. ne (z ∙ n)) ∙ live-without_other name r.world other ne }
+
+  inside-extent : (b : Block) (s : State) (cells : Cells) → IsSettled e s cells → e.is_out b s cells ≡ true → lies_in b (e.extent b s) ≡ true
+  inside-extent b s cells z o = let here = law.placing.covers b s cells z o in inside-of b (e.extent b s) here.from here.upto
+
+  changed-moves : (name : ℕ) (x : Live) (b : Block) (s : State) (cells : Cells) → live_at r.world name ≡ Some x → Changes x.block b s cells
+      → Resizes e.alignment count r.world (replaced (live name b (resized x b.len)) r.world) name x b
+  changed-moves name x b s cells q k =
+      let new = live name b (resized x b.len) in
+      let w = without name r.world in
+      let Other : Live → Type 0 = λ y. (e.is_out y.block r.state r.cells ≡ true) × AreApart e r.state x.block y.block in
+      record {
+        found = q;
+        some = law.keeping.out_some b s cells k.out;
+        fits = record {
+          inside = let l = out-in_range e tags law.placing.covers b s cells k.settled k.out in omega (arith, l, k.size);
+          apart = each-from Other (λ (y : Live). is_apart b y.block ≡ true) w
+              (λ y o. inner-apart b y.block (e.extent b r.state) (e.extent y.block r.state) (rw (k.extents b) at (inside-extent b s cells k.settled k.out)) (inside-extent y.block r.state r.cells h.sound.settled o.0) (k.fresh y.block o.0 o.1).either)
+              (others-of name x q);
+        };
+        aligned = rest_of_multiple b.place e.alignment (law.placing.aligned b s cells k.settled k.out);
+        now = live-with_same new w (live-without_same name r.world);
+        others = others-kept name new refl;
+      }
+
+  -- ---- a block grows
+
+  grown-changes : (b : Block) (delta : ℕ) (y : After Bool) → IsGrown e r.state r.cells b delta y → length y.cells.tags ≡ count → y.answer ≡ true → Changes b (longer_if true delta b) y.state y.cells
+  grown-changes b delta y g n q =
+      let longer = ap (λ d. longer_if d delta b) q in
+      record {
+        opened = g.is_set;
+        settled = g.settled;
+        size = n;
+        extents = g.extents;
+        out = subst (λ (c : Block). e.is_out c y.state y.cells ≡ true) longer g.out;
+        stays = λ c o a. g.stays c o (λ d. a);
+        fresh = λ c o a. subst (λ (d : Block). AreApart e r.state d c) longer (g.fresh c o a);
+      }
+
+  grow-step : (name delta : ℕ) (x : Live) (y : After Bool) (done : Bool) → live_at r.world name ≡ Some x → IsGrown e r.state r.cells x.block delta y → length y.cells.tags ≡ count → y.answer ≡ done
+      → IsStep e count leaves (Expand name delta) r.world (grown_under name delta x r.world y.state y.cells done)
+  grow-step name delta x y true q g n a =
+      let b = longer_if true delta x.block in
+      let k = grown-changes x.block delta y g n a in
+      record {
+        held = changed-run name x b (resized x b.len) y.state y.cells q k;
+        moves = record { was = x; grows = changed-moves name x b y.state y.cells q k };
+      }
+  grow-step name delta x y false q g n a = record {
+    held = same-run y.state y.cells g.is_set g.settled n g.extents (λ b o. g.stays b o (λ d. absurd (cc)));
+    moves = refl;
+  }
+
+  expand-step : (name delta : ℕ) (o : Option Live) (offered : Bool) → live_at r.world name ≡ o
+      → IsStep e count leaves (Expand name delta) r.world (on_live o r (λ x. if_offered offered r (grown name delta x r.world (e.expand delta x.block r.state r.cells))))
+  expand-step name delta None offered q = fault-step _ NameNotLive
+  expand-step name delta (Some x) false q = fault-step _ NotOffered
+  expand-step name delta (Some x) true q =
+      let y = e.expand delta x.block r.state r.cells in
+      let g = law.keeping.grown delta x.block r.state r.cells h.opened h.sound.settled (live_out name x q) in
+      grow-step name delta x y y.answer q g (g.table.count ∙ h.size) refl
+
+  -- ---- a block gets another length
+
+  move-step : (name size : ℕ) (x : Live) (y : After Reallocated) (a : Reallocated) → live_at r.world name ≡ Some x → IsReallocated e r.state r.cells x.block size y → y.answer ≡ a → IsStep e count leaves (Reallocate name size) r.world (moved_under name x r.world y.state y.cells a)
+  move-step name size x y (moved_to b) q g a =
+      let k : Changes x.block b y.state y.cells = record {
+        opened = g.is_set;
+        settled = g.settled;
+        size = g.count ∙ h.size;
+        extents = g.extents;
+        out = g.out b a;
+        stays = λ c o p. g.stays c o (λ d. p);
+        fresh = g.fresh b a;
+      } in
+      let same : b ≡ block b.place size = ap (block b.place) (g.len b a) in
+      record {
+        held = changed-run name x b (resized x b.len) y.state y.cells q k;
+        moves = record {
+          was = x;
+          gets = subst (λ (c : Block). Resizes e.alignment count r.world (replaced (live name b (resized x b.len)) r.world) name x c) same (changed-moves name x b y.state y.cells q k);
+          where_to = elim (g.place b a) [
+            | inl p ↦ inl p
+            | inr p ↦ inr (subst (λ (c : Block). is_apart c x.block ≡ true) same
+                (inner-apart b x.block (e.extent b r.state) (e.extent x.block r.state) (rw (g.extents b) at (inside-extent b y.state y.cells g.settled k.out))
+                (inside-extent x.block r.state r.cells h.sound.settled (live_out name x q)) p.either))
+          ];
+        };
+      }
+  move-step name size x y emptied q g a = record {
+    held = kept-run y.state y.cells (without name r.world) g.is_set g.settled (g.count ∙ h.size) g.extents
+        (each-from (λ (z : Live). (e.is_out z.block r.state r.cells ≡ true) × AreApart e r.state x.block z.block) (λ (z : Live). e.is_out z.block y.state y.cells ≡ true) (without name r.world)
+        (λ z o. g.stays z.block o.0 (λ d. o.1)) (others-of name x q))
+        (each_pair-live_without (λ (z u : Live). is_apart (e.extent z.block r.state) (e.extent u.block r.state) ≡ true) name r.world h.apart);
+    moves = (g.some a, record { gone = live-without_same name r.world; others = record { at = λ other ne. live-without_other name r.world other ne } });
+  }
+  move-step name size x y unmoved q g a = record {
+    held = same-run y.state y.cells g.is_set g.settled (g.count ∙ h.size) g.extents (λ b o. g.stays b o (λ d. absurd (let z : is_done unmoved ≡ true = subst (λ (c : Reallocated). is_done c ≡ true) a d in cc)));
+    moves = refl;
+  }
+
+  reallocate-step : (name size : ℕ) (o : Option Live) → live_at r.world name ≡ o
+      → IsStep e count leaves (Reallocate name size) r.world (on_live o r (λ x. moved name x r.world (e.reallocate size x.block r.state r.cells)))
+  reallocate-step name size None q = fault-step _ NameNotLive
+  reallocate-step name size (Some x) q =
+      let y = e.reallocate size x.block r.state r.cells in
+      move-step name size x y y.answer q (law.keeping.reallocated size x.block r.state r.cells h.opened h.sound.settled (live_out name x q)) refl
+
+  -- ---- blocks are given back
+
+  free-step : (name : ℕ) (o : Option Live) → live_at r.world name ≡ o → IsStep e count leaves (Free name) r.world (on_live o r (λ x. freed name r.world (e.deallocate x.block r.state r.cells)))
+  free-step name None q = fault-step _ NameNotLive
   free-step name (Some x) q =
       let b = x.block in
       let w = r.world in
-      let out = each-live_at (λ c. e.is_out c r.state r.cells ≡ true) w name x h.out q in
       let y = e.deallocate b r.state r.cells in
-      let g = law.keeping.freed b r.state r.cells h.opened h.sound.settled out in
-      let apart = each-live_other (λ c d. is_apart (e.extent c r.state) (e.extent d r.state) ≡ true) (λ c d. apart-flip (e.extent c r.state) (e.extent d r.state)) w name x h.apart q in
+      let g = law.keeping.freed b r.state r.cells h.opened h.sound.settled (live_out name x q) in
       record {
         held = kept-run y.state y.cells (without name w) g.is_set g.settled (h.made.regular.taking.deallocate_count b r.state r.cells ∙ h.size) g.extents
-            (each-live_without (λ (z : Live). e.is_out z.block y.state y.cells ≡ true) name w
-            (each-both (λ (z : Live). e.is_out z.block r.state r.cells ≡ true) (λ (z : Live). z.name ≢ name → is_apart (e.extent b r.state) (e.extent z.block r.state) ≡ true) (λ (z : Live). z.name ≢ name → e.is_out z.block y.state y.cells ≡ true) w
-            (λ z o a ne. g.stays z.block o (record { either = a ne })) h.out apart))
+            (each-from (λ (z : Live). (e.is_out z.block r.state r.cells ≡ true) × AreApart e r.state b z.block) (λ (z : Live). e.is_out z.block y.state y.cells ≡ true) (without name w)
+            (λ z o. g.stays z.block o.0 o.1) (others-of name x q))
             (each_pair-live_without (λ (z u : Live). is_apart (e.extent z.block r.state) (e.extent u.block r.state) ≡ true) name w h.apart);
         moves = record { gone = live-without_same name w; others = record { at = λ other ne. live-without_other name w other ne } };
       }
 
-performed-step : (e : Rules) (count leaves : ℕ) (call : Call) (r : Run) → IsHeldRun e count leaves r → IsStep e count leaves call r.world (performed e call r)
+  free_all-step : (offered : Bool) → IsStep e count leaves FreeAll r.world (if_offered offered r (all_freed (e.deallocate_all r.state r.cells)))
+  free_all-step false = fault-step _ NotOffered
+  free_all-step true =
+      let o = e.deallocate_all r.state r.cells in
+      let g = law.keeping.emptied r.state r.cells h.opened h.sound.settled in
+      record {
+        held = record {
+          made = h.made;
+          opened = g.is_set;
+          sound = record { distinct = h.sound.distinct; made = h.sound.made; settled = g.settled };
+          size = h.made.regular.taking.deallocate_all_count r.state r.cells ∙ h.size;
+          out = tt;
+          apart = tt;
+        };
+        moves = refl;
+      }
+
+  -- ---- a block is asked for
+
+  owns-step : (name : ℕ) (o : Option Live) (offered : Bool) → live_at r.world name ≡ o → IsStep e count leaves (Owns name) r.world (on_live o r (λ x. if_offered offered r (owned r (e.owns x.block r.state))))
+  owns-step name None offered q = fault-step _ NameNotLive
+  owns-step name (Some x) false q = fault-step _ NotOffered
+  owns-step name (Some x) true q =
+      let y = e.owns x.block r.state in
+      let g = law.keeping.owned x.block r.state r.cells h.sound.settled in
+      record {
+        held = same-run y.state r.cells (h.made.regular.openness.owns x.block r.state ∙ h.opened) g.settled h.size g.extents (λ b o. g.out b ∙ o);
+        moves = record { was = x; found = q; same = refl };
+      }
+
+  asked-step : (name : ℕ) (path : List ℕ) (x : Live) (a : Asked) → live_at r.world name ≡ Some x → IsStep e count leaves (OwnsAt name path) r.world (asked_at r a)
+  asked-step name path x asked.Yes q = look-step _ (answers.Said true) (record { was = x; found = q; same = refl })
+  asked-step name path x asked.No q = look-step _ (answers.Said false) (record { was = x; found = q; same = refl })
+  asked-step name path x asked.NotServing q = fault-step _ NotServing
+  asked-step name path x asked.NotOffered q = fault-step _ NotOffered
+  asked-step name path x asked.NoSuchLayer q = fault-step _ NoSuchLayer
+
+  owns_at-step : (name : ℕ) (path : List ℕ) (o : Option Live) → live_at r.world name ≡ o → IsStep e count leaves (OwnsAt name path) r.world (on_live o r (λ x. asked_at r (owns_along e path x.block r.state)))
+  owns_at-step name path None q = fault-step _ NameNotLive
+  owns_at-step name path (Some x) q = asked-step name path x (owns_along e path x.block r.state) q
+
+  -- ---- bytes are written and read
+
+  write-step : (name offset : ℕ) (given : List ℕ) (x : Live) (inside : Bool) → live_at r.world name ≡ Some x → nat_le (offset + length given) x.block.len ≡ inside
+      → IsStep e count leaves (Write name offset given) r.world (if_inside inside r (written name offset given x r))
+  write-step name offset given x false q i = fault-step _ OutOfBlock
+  write-step name offset given x true q i =
+      let k : Changes x.block x.block r.state r.cells = record {
+        opened = h.opened;
+        settled = h.sound.settled;
+        size = h.size;
+        extents = λ c. refl;
+        out = live_out name x q;
+        stays = λ c o a. o;
+        fresh = λ c o a. a;
+      } in
+      let new = live name x.block (write_from x.bytes offset given) in
+      record {
+        held = changed-run name x x.block (write_from x.bytes offset given) r.state r.cells q k;
+        moves = record {
+          was = x;
+          found = q;
+          inside = grind (arith, nat_tests);
+          now = live-with_same new (without name r.world) (live-without_same name r.world);
+          others = others-kept name new refl;
+        };
+      }
+
+  write_live-step : (name offset : ℕ) (given : List ℕ) (o : Option Live) → live_at r.world name ≡ o
+      → IsStep e count leaves (Write name offset given) r.world (on_live o r (λ x. if_inside (nat_le (offset + length given) x.block.len) r (written name offset given x r)))
+  write_live-step name offset given None q = fault-step _ NameNotLive
+  write_live-step name offset given (Some x) q = write-step name offset given x (nat_le (offset + length given) x.block.len) q refl
+
+  read-step : (name offset len : ℕ) (x : Live) (inside : Bool) → live_at r.world name ≡ Some x → nat_le (offset + len) x.block.len ≡ inside
+      → IsStep e count leaves (Read name offset len) r.world (if_inside inside r (bytes_read offset len x r))
+  read-step name offset len x false q i = fault-step _ OutOfBlock
+  read-step name offset len x true q i =
+      look-step _ (answers.Bytes (slice_range x.bytes offset (offset + len))) (record { asks = record { was = x; found = q; same = refl }; inside = grind (arith, nat_tests); read = refl })
+
+  read_live-step : (name offset len : ℕ) (o : Option Live) → live_at r.world name ≡ o
+      → IsStep e count leaves (Read name offset len) r.world (on_live o r (λ x. if_inside (nat_le (offset + len) x.block.len) r (bytes_read offset len x r)))
+  read_live-step name offset len None q = fault-step _ NameNotLive
+  read_live-step name offset len (Some x) q = read-step name offset len x (nat_le (offset + len) x.block.len) q refl
+
+performed-step : (e : Rules) (count leaves : ℕ) (call : Call) (r : Run) → IsCall call → IsHeldRun e count leaves r → IsStep e count leaves call r.world (performed e call r)
 unfolding performed
-performed-step e count leaves (Allocate name size) r h = allocate-step e count leaves r h name size (live_at r.world name) (nat_le most_live (length r.world)) refl
-performed-step e count leaves (Free name) r h = free-step e count leaves r h name (live_at r.world name) refl
+performed-step e count leaves (Allocate name size) r c h = allocate-step e count leaves r h name size (live_at r.world name) (nat_le most_live (length r.world)) refl
+performed-step e count leaves (Aligned name size align) r c h = aligned-step e count leaves r h name size align (live_at r.world name) (nat_le most_live (length r.world)) e.offers.aligned refl c
+performed-step e count leaves (Expand name delta) r c h = expand-step e count leaves r h name delta (live_at r.world name) e.offers.expand refl
+performed-step e count leaves (Reallocate name size) r c h = reallocate-step e count leaves r h name size (live_at r.world name) refl
+performed-step e count leaves (Free name) r c h = free-step e count leaves r h name (live_at r.world name) refl
+performed-step e count leaves FreeAll r c h = free_all-step e count leaves r h e.offers.all
+performed-step e count leaves (Owns name) r c h = owns-step e count leaves r h name (live_at r.world name) e.offers.owns refl
+performed-step e count leaves (OwnsAt name path) r c h = owns_at-step e count leaves r h name path (live_at r.world name) refl
+performed-step e count leaves (Good size) r c h = record { held = h; moves = (h.made.regular.telling.enough size, refl) }
+performed-step e count leaves (Write name offset given) r c h = write_live-step e count leaves r h name offset given (live_at r.world name) refl
+performed-step e count leaves (Read name offset len) r c h = read_live-step e count leaves r h name offset len (live_at r.world name) refl
 
 pub performed-held : PerformedHeld
-performed-held e count leaves call r h = (performed-step e count leaves call r h).held
+performed-held e count leaves call r c h = (performed-step e count leaves call r c h).held
 
 pub performed-moves : PerformedMoves
-performed-moves e count leaves call r h = (performed-step e count leaves call r h).moves
+performed-moves e count leaves call r c h = (performed-step e count leaves call r c h).moves
 
 -- ---- the first run
 

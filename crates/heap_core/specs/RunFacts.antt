@@ -7,15 +7,15 @@ use Rattle.layer_rules.specs.Rows.{Each, EachPair}
 use Rattle.layer_rules.specs.Rules.{Rules, HasDistinctTags, HasMadeTags, HasNoCells}
 use Rattle.layer_rules.specs.After.{Opened}
 use Rattle.layer_rules.specs.Layering.{LayerModel}
-use Rattle.layer_laws.specs.Lawful.{IsMade}
+use Rattle.layer_laws.specs.Lawful.{IsMade, Same}
 use Rattle.heap_core.specs.declared.Named.{Named}
 use Rattle.heap_core.specs.declared.Call.{Call}
-use Rattle.heap_core.specs.declared.Call.TheVariants.{Allocate}
+use Rattle.heap_core.specs.declared.Call.TheVariants.{Allocate, Aligned, Expand, Reallocate, Write}
 use Rattle.heap_core.specs.declared.Answer.{Answer}
 use Rattle.heap_core.specs.declared.CallFault.{CallFault}
 use Rattle.heap_core.specs.World.{World, Live, live_at}
 use Rattle.heap_core.specs.Names.{IsTable}
-use Rattle.heap_core.specs.Performing.{Run, run_of, most_live, performed}
+use Rattle.heap_core.specs.Performing.{IsCall, Run, run_of, most_live, performed}
 use Rattle.heap_core.specs.Holding.{run_in, Held}
 use Rattle.heap_core.specs.Steps.{IsHeldRun}
 use Rattle.heap_core.specs.declared.Answer.TheVariants as answers
@@ -30,6 +30,11 @@ pub record IsWorld (w : World) : Type 0 where
 pub record IsRun (e : Rules) (count leaves : ℕ) (r : Run) : Type 0 where
   pub held : IsHeldRun e count leaves r
   pub world : IsWorld r.world
+
+-- the call writes no byte
+abbrev pub WritesNone : Call → Type 0
+WritesNone (Write name offset given) = ⊥
+WritesNone _ = ⊤
 
 -- all bytes of the live blocks are 0, as they are while no call writes
 pub record IsZeroed (w : World) : Type 0 where
@@ -55,17 +60,17 @@ RunBegins =
     (e : Rules) (need : ℕ) (cells : Cells) (leaves : ℕ) (o : Opened) → IsMade e → HasDistinctTags e → HasMadeTags leaves e → HasNoCells e cells
     → e.set_up need cells ≡ Ok o → IsRun e (length cells.tags) leaves (run_of o.state o.cells [])
 
--- so is what stands after a call, performed or in fault
+-- so is what stands after a call whose condition holds, performed or in fault
 abbrev pub RunGoesOn : Type 0
-RunGoesOn = (e : Rules) (count leaves : ℕ) (call : Call) (r : Run) → IsRun e count leaves r → IsRun e count leaves (performed e call r).1
+RunGoesOn = (e : Rules) (count leaves : ℕ) (call : Call) (r : Run) → IsCall call → IsRun e count leaves r → IsRun e count leaves (performed e call r).1
 
 -- so is what a heap holds in its Space
 abbrev pub HeldIsRun : Type 0
 HeldIsRun = (t : LayerModel) (table : List Named) (m : Memory) → IsTable table → Held t table m → IsRun t.rules (length m.cells.tags) m.leaves (run_in t table m)
 
--- a block comes with zeros, and no call writes
+-- blocks come with zeros and grow by zeros, so while no call writes there are no others
 abbrev pub ZerosStay : Type 0
-ZerosStay = (e : Rules) (call : Call) (r : Run) → IsZeroed r.world → IsZeroed (performed e call r).1.world
+ZerosStay = (e : Rules) (call : Call) (r : Run) → WritesNone call → IsZeroed r.world → IsZeroed (performed e call r).1.world
 
 -- the blocks of a run are in their area, and apart
 abbrev pub RunHasBlocks : Type 0
@@ -94,3 +99,33 @@ abbrev pub PlacedElse : Type 0
 PlacedElse =
     (e : Rules) (count leaves name size : ℕ) (r : Run) → IsHeldRun e count leaves r → live_at r.world name ≡ None → length r.world < most_live
     → 1 ≤ size → e.refuses size r.state r.cells ≡ false → IsPlaced (performed e (Allocate name size) r).0
+
+-- The same of a request at a multiple, where the root offers it.
+abbrev pub AlignedNullExactly : Type 0
+AlignedNullExactly =
+    (e : Rules) (count leaves name size align : ℕ) (r : Run) → IsHeldRun e count leaves r → live_at r.world name ≡ None → length r.world < most_live → e.offers.aligned ≡ true
+    → ((performed e (Aligned name size align) r).0 ≡ Ok answers.Null) ↔ ((size ≡ 0) ⊎ (e.refuses_aligned size align r.state r.cells ≡ true))
+
+abbrev pub AlignedPlacedElse : Type 0
+AlignedPlacedElse =
+    (e : Rules) (count leaves name size align : ℕ) (r : Run) → IsHeldRun e count leaves r → live_at r.world name ≡ None → length r.world < most_live → e.offers.aligned ≡ true
+    → 1 ≤ size → e.refuses_aligned size align r.state r.cells ≡ false → IsPlaced (performed e (Aligned name size align) r).0
+
+-- of the run nothing is another but the root's statistics
+pub record IsSameRun (old new : Run) : Type 0 where
+  pub rest : Same old.state old.cells new.state new.cells
+  pub world : new.world ≡ old.world
+
+-- so where the call is answered like this
+abbrev pub IsSameOn : Rules → Run → Call → Answer → Type 0
+IsSameOn e r call answer = (performed e call r).0 ≡ Ok answer → IsSameRun r (performed e call r).1
+
+-- where no block was served, and where a block could not grow or get another length
+pub record IsSameOnRefusal (e : Rules) (r : Run) : Type 0 where
+  pub allocate : (name size : ℕ) → IsSameOn e r (Allocate name size) answers.Null
+  pub aligned : (name size align : ℕ) → IsSameOn e r (Aligned name size align) answers.Null
+  pub expand : (name delta : ℕ) → IsSameOn e r (Expand name delta) (answers.Said false)
+  pub reallocate : (name size : ℕ) → IsSameOn e r (Reallocate name size) (answers.Said false)
+
+abbrev pub RefusedChangesNone : Type 0
+RefusedChangesNone = (e : Rules) (count leaves : ℕ) (r : Run) → IsHeldRun e count leaves r → IsSameOnRefusal e r

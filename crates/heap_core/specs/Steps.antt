@@ -13,7 +13,7 @@ use Rattle.heap_core.specs.declared.Named.{Named}
 use Rattle.heap_core.specs.declared.Call.{Call}
 use Rattle.heap_core.specs.World.{Live}
 use Rattle.heap_core.specs.Names.{asked_by}
-use Rattle.heap_core.specs.Performing.{Run, run_of, performed}
+use Rattle.heap_core.specs.Performing.{IsCall, Run, run_of, performed}
 use Rattle.heap_core.specs.Moves.{Moves}
 use Rattle.heap_core.specs.Holding.{world_of, run_in, Held}
 use Rattle.heap_core.specs.Heap.{extent_len, AreMeasured}
@@ -37,15 +37,15 @@ BeginsHeld =
     (e : Rules) (cells : Cells) (leaves : ℕ) (o : Opened) → IsMade e → HasDistinctTags e → HasMadeTags leaves e → HasNoCells e cells
     → e.set_up 0 cells ≡ Ok o → IsHeldRun e (length cells.tags) leaves (run_of o.state o.cells [])
 
--- so is what stands after a call, performed or in fault
+-- so is what stands after a call whose condition holds, performed or in fault
 abbrev pub PerformedHeld : Type 0
 PerformedHeld =
-    (e : Rules) (count leaves : ℕ) (call : Call) (r : Run) → IsHeldRun e count leaves r → IsHeldRun e count leaves (performed e call r).1
+    (e : Rules) (count leaves : ℕ) (call : Call) (r : Run) → IsCall call → IsHeldRun e count leaves r → IsHeldRun e count leaves (performed e call r).1
 
 -- and a call that is performed is a step of the block machine
 abbrev pub PerformedMoves : Type 0
 PerformedMoves =
-    (e : Rules) (count leaves : ℕ) (call : Call) (r : Run) → IsHeldRun e count leaves r
+    (e : Rules) (count leaves : ℕ) (call : Call) (r : Run) → IsCall call → IsHeldRun e count leaves r
     → IfOk (performed e call r).0 (λ answer. Moves e.alignment count r.world call answer (performed e call r).1.world)
 
 -- ---- the numbers of a heap

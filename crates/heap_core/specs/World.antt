@@ -1,5 +1,5 @@
 -- World: the live blocks by name, each with its bytes, in order of the names.
-use Rattle.std.specs.Prelude.{ℕ, Bool, not, List, [], ◌∷◌, Option, Some, None, is_some, filter, nat_eq, nat_lt, if◌then◌else◌}
+use Rattle.std.specs.Prelude.{ℕ, ◌-◌, ◌++◌, Bool, not, List, [], ◌∷◌, Option, Some, None, is_some, filter, take, replicate, nat_eq, nat_lt, if◌then◌else◌}
 use Rattle.layer_rules.specs.declared.Block.{Block}
 
 -- a live block
@@ -30,3 +30,11 @@ with_live x (y ∷ ys) = if nat_lt x.name y.name then x ∷ y ∷ ys else y ∷ 
 -- the world in which the name isn't live
 abbrev pub without : (name : ℕ) → World → World
 without name w = filter (λ x. not (nat_eq x.name name)) w
+
+-- the world with another block, or other bytes, under a live name
+abbrev pub replaced : Live → World → World
+replaced x w = with_live x (without x.name w)
+
+-- the bytes of a live block once it has n: those that both lengths have, and zeros behind them
+abbrev pub resized : Live → (n : ℕ) → List ℕ
+resized x n = take n x.bytes ++ replicate (n - x.block.len) 0

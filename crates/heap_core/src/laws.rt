@@ -1,5 +1,6 @@
 //! What holds of each heap whatever its root. Each law is a clause of a function that does nothing.
 
+ghost use Rattle.heap_core.specs.Heap.{LentIsWritten};
 ghost use Rattle.heap_core.specs.Steps.{HeldRun, BeginsHeld, PerformedHeld, PerformedMoves, HeldMeasured, ExtentsInRun, AskedInRun, LiveInRun};
 
 /// A held heap stays held whatever is called, and each call that is performed is a step of the
@@ -17,4 +18,10 @@ pub fn blocks_are_measured()
     ensures extents { ExtentsInRun }
     ensures asked { AskedInRun }
     ensures live { LiveInRun }
+{}
+
+/// What is written into the bytes of a live block that were lent is a write of them by name: the heap is
+/// held again, and no other block's bytes change.
+pub fn lent_bytes_are_written()
+    ensures { LentIsWritten }
 {}

@@ -5,29 +5,89 @@ mod heap;
 pub mod laws;
 pub mod runs;
 mod table;
+#[cfg(test)]
+mod tests;
 
 pub use heap::{Heap, MakeFault};
-pub use layer_core::Block;
+pub use layer_core::{Block, Octets, Path};
 use thiserror::Error;
 
 /// A call on the heap.
-#[derive(Clone, Copy, Debug, PartialEq, Eq)]
+#[derive(Clone, Debug, PartialEq, Eq, Drop)]
 pub enum Call {
     /// A block of `size` bytes, all 0, under a name that isn't live.
-    Allocate { name: u32, size: u64 },
+    Allocate {
+        name: u32,
+        size: u64,
+    },
+    /// The same at a multiple of `align`, a power of two up to 4,096.
+    Aligned {
+        name: u32,
+        size: u64,
+        align: u64,
+    },
+    /// The block of a live name grows by `delta` bytes where it stands; the new ones are 0.
+    Expand {
+        name: u32,
+        delta: u64,
+    },
+    /// The block of a live name gets `size` bytes, here or elsewhere; those that are new are 0.
+    Reallocate {
+        name: u32,
+        size: u64,
+    },
     /// The block of a live name is given back.
-    Free { name: u32 },
+    Free {
+        name: u32,
+    },
+    /// All blocks are given back.
+    FreeAll,
+    /// Whether the root owns the block of a live name.
+    Owns {
+        name: u32,
+    },
+    /// Whether the layer at the end of the path holds the block of a live name.
+    OwnsAt {
+        name: u32,
+        path: Path,
+    },
+    /// The size that is best asked in place of `size`.
+    Good {
+        size: u64,
+    },
+    /// Bytes are written into the block of a live name, from an offset on.
+    Write {
+        name: u32,
+        offset: u64,
+        bytes: Octets,
+    },
+    /// So many bytes of the block of a live name, from 1 to 64, from an offset on.
+    Read {
+        name: u32,
+        offset: u64,
+        len: u64,
+    },
 }
 
 /// What a call answers.
-#[derive(Clone, Copy, Debug, PartialEq, Eq)]
+#[derive(Clone, Debug, PartialEq, Eq, Drop)]
 pub enum Answer {
     /// The place of the new block, an offset in the Space.
     Placed { place: u64 },
     /// No block: 0 bytes were asked, or the layer refuses.
     Null,
-    /// What giving the block back answered.
+    /// What the layer answered.
     Said { yes: bool },
+    /// The place of the block with its new length, where it stood or elsewhere.
+    Moved { place: u64 },
+    /// The block was given back, since 0 bytes were asked.
+    Gone,
+    /// The size that is best asked.
+    Size { size: u64 },
+    /// It was done.
+    Done,
+    /// The bytes that were read.
+    Bytes { bytes: Octets },
 }
 
 /// Why a call is not performed. All is as before then.
@@ -42,6 +102,18 @@ pub enum CallFault {
     /// 65,536 names are live.
     #[error("too many live blocks")]
     TooManyLive,
+    /// The bytes to be written or read aren't all the block's.
+    #[error("outside the block")]
+    OutOfBlock,
+    /// The layer that is called doesn't offer the call.
+    #[error("not offered")]
+    NotOffered,
+    /// The path enters the parent of a layer that took one chunk from it.
+    #[error("not serving")]
+    NotServing,
+    /// A step of the path names no child.
+    #[error("no such layer")]
+    NoSuchLayer,
 }
 
 /// A live block under its name.
@@ -49,35 +121,4 @@ pub enum CallFault {
 pub struct Named {
     pub name: u32,
     pub block: Block,
-}
-
-#[cfg(test)]
-mod tests {
-    use super::*;
-    use layer_core::{Layer, space_and_leaf};
-    use std::test::Fail;
-
-    // A leaf over 4 cells of 64 bytes serves the least free run, at multiples of 64.
-    #[test]
-    fn serves_by_name(rt: HostRuntime) -> Result<(), Fail> {
-        let (mut space, leaf) = space_and_leaf(rt.alloc(), 4)?;
-        let mut heap = Heap::make(rt.alloc(), leaf, &mut space).expect(&rt, "a heap");
-        let first = heap.perform(&mut space, &Call::Allocate { name: 7, size: 100 });
-        assert_eq!(rt; first, Ok(Answer::Placed { place: 0 }));
-        let second = heap.perform(&mut space, &Call::Allocate { name: 3, size: 64 });
-        assert_eq!(rt; second, Ok(Answer::Placed { place: 128 }));
-        let again = heap.perform(&mut space, &Call::Allocate { name: 7, size: 1 });
-        assert_eq!(rt; again, Err(CallFault::NameLive));
-        let refused = heap.perform(&mut space, &Call::Allocate { name: 8, size: 65 });
-        assert_eq!(rt; refused, Ok(Answer::Null));
-        assert_eq!(rt; heap.live(), 2);
-        assert_eq!(rt; heap.asked(), 164);
-        let freed = heap.perform(&mut space, &Call::Free { name: 7 });
-        assert_eq!(rt; freed, Ok(Answer::Said { yes: true }));
-        let missing = heap.perform(&mut space, &Call::Free { name: 7 });
-        assert_eq!(rt; missing, Err(CallFault::NameNotLive));
-        assert!(rt; heap.block(7).is_none());
-        assert!(rt; heap.root().is_open());
-        Ok(())
-    }
 }

@@ -1,6 +1,6 @@
 //! What holds of every run of calls, by one step. Each law is a clause of a function that does nothing.
 
-ghost use Rattle.heap_core.specs.RunFacts.{RunBegins, RunGoesOn, HeldIsRun, ZerosStay, RunHasBlocks, NamesShareNoByte, FaultKeepsRun, NullExactly, PlacedElse};
+ghost use Rattle.heap_core.specs.RunFacts.{RunBegins, RunGoesOn, HeldIsRun, ZerosStay, RunHasBlocks, NamesShareNoByte, FaultKeepsRun, NullExactly, PlacedElse, AlignedNullExactly, AlignedPlacedElse, RefusedChangesNone};
 
 /// A run begins with no block, and is a run after each call: the root is open and sound, the table
 /// of cells keeps its length, and the names of the live blocks rise. What a heap holds is a run.
@@ -17,9 +17,13 @@ pub fn live_blocks_are_apart()
     ensures names { NamesShareNoByte }
 {}
 
-/// A call in fault changes nothing; a new block is refused exactly where the rules refuse it.
+/// A call in fault changes nothing, and a refused one nothing but statistics; a new block is refused
+/// exactly where the rules refuse it.
 pub fn answers_are_exact()
     ensures fault { FaultKeepsRun }
     ensures null { NullExactly }
     ensures placed { PlacedElse }
+    ensures null_aligned { AlignedNullExactly }
+    ensures placed_aligned { AlignedPlacedElse }
+    ensures refused { RefusedChangesNone }
 {}

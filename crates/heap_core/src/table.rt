@@ -1,5 +1,5 @@
 //! The live blocks, in order of their names.
-ghost use Rattle.std.specs.Prelude.{◌≡◌, ◌≤◌, ◌<◌, [], None, length, nat_le, IfOk, IfErr};
+ghost use Rattle.std.specs.Prelude.{◌≡◌, ◌≤◌, ◌<◌, [], None, true, is_some, length, nat_le, IfOk, IfErr};
 ghost use Rattle.size_round.specs.Sizes.{limit};
 ghost use Rattle.heap_core.specs.Names.{named_at, with_named, without_name, asked_by, IsTable, IsAt, IsGapFor};
 ghost use Rattle.heap_core.specs.Performing.{most_live};
@@ -68,7 +68,8 @@ impl Table {
 
     /// The block of a name, or `None` where the name isn't live.
     pub fn find(&self, name: u32) -> Option<Block>
-        ensures { result ≡ named_at self.now name }
+        ensures block { result ≡ named_at self.now name }
+        ensures table { IsTable self.now }
     {
         match self.search(name) {
             Ok(at) => Some(self.entries[at].block),
@@ -93,11 +94,29 @@ impl Table {
     pub fn remove(&mut self, name: u32) -> Option<Block>
         ensures block { result ≡ named_at self.old name }
         ensures after { self.new ≡ without_name name self.old }
+        ensures table { IsTable self.old }
     {
         match self.search(name) {
             Ok(at) => Some(self.entries.remove(at).block),
             Err(_) => None,
         }
+    }
+
+    /// Puts another block under a name that is live. It takes no memory.
+    pub fn replace(&mut self, named: Named)
+        requires live { is_some (named_at self.old named.name) ≡ true }
+        requires short { named.block.len ≤ limit }
+        ensures { self.new ≡ with_named named (without_name named.name self.old) }
+    {
+        self.remove(named.name);
+        self.insert(named);
+    }
+
+    /// Takes all blocks out.
+    pub fn clear(&mut self)
+        ensures { self.new ≡ [] }
+    {
+        self.entries.clear();
     }
 
     /// How many bytes the live blocks have together.

@@ -1,11 +1,12 @@
 // Short rows: paths and bytes of a line.
 ghost use Rattle.std.specs.Prelude.{◌≡◌, ◌≤◌, ◌<◌, [], ◌∷◌, ◌++◌, true, false, length, slice_index_or, nat_lt};
+ghost use Rattle.std.specs.Cmp.Lexicographic.{pointwise, lists_equiv, lists_per};
 
 use arrayvec::ArrayVec;
 use std::marker::Model;
 
 /// A row of at most `MOST` items.
-#[derive(Drop)]
+#[derive(Clone, Debug, Drop)]
 pub struct Short<T: Copy + Default, const MOST: usize> {
     items: ArrayVec<T, MOST>,
 }
@@ -65,4 +66,18 @@ impl<T: Copy + Default, const MOST: usize> Short<T, MOST> {
         self.items.push(x);
         true
     }
+}
+
+impl<T: Copy + Default + PartialEq, const MOST: usize> PartialEq for Short<T, MOST> {
+    ghost eq = { λ v w. pointwise T.eq v w };
+
+    ghost laws = { lists_per T.laws };
+
+    fn eq(&self, other: &Self) -> bool {
+        self.items == other.items
+    }
+}
+
+impl<T: Copy + Default + Eq, const MOST: usize> Eq for Short<T, MOST> {
+    ghost laws = { lists_equiv T.Eq.laws };
 }

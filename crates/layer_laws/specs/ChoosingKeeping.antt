@@ -249,6 +249,7 @@ pub choosing-keeping : (h : Choosing) (es : List Rules) → AreMembers h es → 
 unfolding choosing_rules
 choosing-keeping h es w =
     let some = λ (b : Block) (s : State) (cells : Cells) (o : (choosing_rules h es).is_out b s cells ≡ true). (out-chosen h es b s cells o).some in
+    let taking = choosing-taking h es (λ i. regular-unranged (nth es i) (w.regular i)) in
     record {
       out_some = some;
       out_open = λ b s cells o. some-open (is_open s) _ _ o;
@@ -256,7 +257,7 @@ choosing-keeping h es w =
       freed = choosing-freed h es w;
       grown = choosing-grown h es w;
       emptied = choosing-emptied h es w;
-      reallocated = choosing-reallocated h es w (record { some = some; takes = (choosing-taking h es (λ i. regular-unranged (nth es i) (w.regular i))).allocate; good = choosing-good h es w; freed = choosing-freed h es w; grown = choosing-grown h es w });
+      reallocated = choosing-reallocated h es w (record { some = some; takes = taking.allocate; gives = taking.deallocate_count; good = choosing-good h es w; freed = choosing-freed h es w; grown = choosing-grown h es w });
       aligned = choosing-aligned_good h es w;
       owned = choosing-owned h es w;
     }

@@ -65,6 +65,7 @@ member-reallocates h es i ss cells b n r w one at_i l li p x g =
           ];
       empty = λ z. absurd (omega arith);
       some = λ q. let y = g.some (shown-emptied (h.shown n) r.answer q) in let k = w.chooses.enough n one.more in absurd (omega arith);
+      count = g.count;
       table = changed-wider e f cells r.cells (λ t y. leaf-in es i t y) g.table;
     }
 
@@ -109,7 +110,7 @@ unfolding choosing_rules
 choosing-reallocated h es w calls n b s cells o z x =
     let f = choosing_rules h es in
     let y = chosen-opened h es s cells o z in
-    asked-reallocated f n (choose_deallocate h es) _ b s cells (calls.some b s cells x) o z x (calls.freed b s cells o z x) (λ l m.
+    asked-reallocated f n (choose_deallocate h es) _ b s cells (calls.some b s cells x) o z x (calls.freed b s cells o z x) (calls.gives b s cells) (λ l m.
     subst (λ s. IsSettled f s cells → GroupParts es s cells → f.is_out b s cells ≡ true
     → IsReallocated f s cells b n (either_reallocate (h.fits n) (either_reallocate (have_one_member h b.len n) (either_reallocate (nat_eq (h.asked n) (h.asked b.len)) (in_place n) (choose_within h es n)) (general_reallocate n (offers_of_all es) (choose_expand h es) (choose_allocate h es n) (choose_deallocate h es))) stay b s cells)) (sym y.form)
     (λ z y x. fits-case h es (children_of s) cells b n (h.fits n) w calls l y z x) z y x)

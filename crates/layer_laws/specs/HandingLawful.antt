@@ -404,7 +404,7 @@ hand-keeping h e w g t p =
       freed = hand-freed h e w p.freed;
       grown = hand-grown h e w p.grown;
       emptied = hand-emptied h e w p.emptied;
-      reallocated = hand-reallocated h e w p.reallocated (record { some = some; takes = (hand-taking h e t).allocate; good = hand-good h e w p.good; freed = hand-freed h e w p.freed; grown = hand-grown h e w p.grown });
+      reallocated = hand-reallocated h e w p.reallocated (record { some = some; takes = (hand-taking h e t).allocate; good = hand-good h e w p.good; freed = hand-freed h e w p.freed; gives = (hand-taking h e t).deallocate_count; grown = hand-grown h e w p.grown });
       aligned = hand-aligned_good h e w p.aligned;
       owned = hand-owned h e w g p.owned;
     }

@@ -34,6 +34,7 @@ hand-recounted h e s cells b n a own own' t c p g =
       place = g.place;
       empty = g.empty;
       some = g.some;
+      count = g.count;
       table = g.table;
     }
 
@@ -99,6 +100,7 @@ hand-through h e own t cells b n r w l p x g =
           ];
       empty = λ z. absurd (omega arith);
       some = λ q. let y = g.some (shown-emptied (h.shown n) r.answer q) in let m = w.asked_some n l in absurd (omega arith);
+      count = g.count;
       table = changed-wider e f cells r.cells (λ t y. y) g.table;
     }
 
@@ -129,6 +131,6 @@ hand-reallocated h e w law calls n b s cells o z x =
     let give = hand_deallocate h e.deallocate in
     let move = λ (c : Block). either_reallocate (h.in_place c.len n) (in_place n) (hand_move h e n) c in
     counted-case h e s cells b n (nat_eq n b.len || nat_eq n 0) give move w
-    (asked-reallocated f n give move b s cells (calls.some b s cells x) o z x (calls.freed b s cells o z x) (λ l m.
+    (asked-reallocated f n give move b s cells (calls.some b s cells x) o z x (calls.freed b s cells o z x) (calls.gives b s cells) (λ l m.
     subst (λ s. IsSettled f s cells → f.is_out b s cells ≡ true → IsReallocated f s cells b n (move b s cells)) (sym y.form)
     (λ z x. place-case h e (own_of s) (child s 0) cells b n _ refl w law calls l y.own y.parent y.below z x) z x))

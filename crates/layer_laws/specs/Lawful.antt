@@ -274,6 +274,7 @@ pub record IsReallocated (e : Rules) (s : State) (cells : Cells) (b : Block) (n 
   pub place : (c : Block) → r.answer ≡ moved_to c → (c.place ≡ b.place) ⊎ AreApart e s c b
   pub empty : n ≡ 0 → r.answer ≡ emptied
   pub some : r.answer ≡ emptied → n ≡ 0
+  pub count : length r.cells.tags ≡ length cells.tags
   pub table : OnlyOwnChanged e cells r.cells
 
 abbrev pub Reallocating : Rules → Type 0

@@ -1,5 +1,5 @@
 -- What reallocating keeps and gives: the guards, and the general form over any rules.
-use Rattle.std.proofs.Common.{◌≡◌, refl, sym, ap, subst, ◌∙◌, ℕ, ◌≤◌, ◌<◌, ◌+◌, ◌-◌, inl, inr, Bool, true, false, ◌&&◌, arith, Option, Some, None, nat_eq, nat_lt}
+use Rattle.std.proofs.Common.{◌≡◌, refl, sym, ap, subst, ◌∙◌, ℕ, ◌≤◌, ◌<◌, ◌+◌, ◌-◌, inl, inr, Bool, true, false, ◌&&◌, arith, length, Option, Some, None, nat_eq, nat_lt}
 use Rattle.std.proofs.lemmas.Bool.Decides.{nat_tests}
 use Rattle.size_round.specs.Sizes.{limit}
 use Rattle.space_core.specs.Cells.{Cells}
@@ -14,8 +14,8 @@ use Rattle.layer_rules.specs.Reallocating.{reallocated_unless, asked_to_realloca
 use Rattle.layer_rules.specs.Rules.{Rules, IsSettled, AreApart}
 use Rattle.layer_laws.specs.Apart.{SameExtents, extents-back, apart-moved, apart-flip}
 use Rattle.layer_laws.specs.Lawful.{OnlyOwnCells, IsGood, Good, IsFreed, Freeing, IsGrown, Growing, IsReallocated}
-use Rattle.layer_laws.specs.OwnChanges.{changed-none, changed-taken, changed-freed, changed-then}
 use Rattle.layer_laws.specs.Takings.{TakesOwn}
+use Rattle.layer_laws.specs.OwnChanges.{changed-none, changed-taken, changed-freed, changed-then}
 
 -- ---- what is refused, and what stays in place
 
@@ -32,6 +32,7 @@ kept-unmoved e s cells b n l o h = record {
   place = λ c q. absurd (cc);
   empty = λ z. absurd (omega arith);
   some = λ q. absurd (cc);
+  count = refl;
   table = changed-none e cells;
 }
 
@@ -50,14 +51,15 @@ kept-in_place e s cells b n l o h x z = record {
   place = λ d y. let k : with_len b n ≡ d = cc in inl (ap (λ (x : Block). x.place) (sym k));
   empty = λ z. absurd (omega arith);
   some = λ q. absurd (cc);
+  count = refl;
   table = changed-none e cells;
 }
 
 -- ---- the guards
 
 -- the block is given back
-freed-empty : (e : Rules) (s : State) (cells : Cells) (b : Block) (n : ℕ) (r : After Bool) → n ≡ 0 → IsFreed e s cells b r → IsReallocated e s cells b n (answering (λ gone. emptied) r)
-freed-empty e s cells b n r q g = record {
+freed-empty : (e : Rules) (s : State) (cells : Cells) (b : Block) (n : ℕ) (r : After Bool) → n ≡ 0 → IsFreed e s cells b r → length r.cells.tags ≡ length cells.tags → IsReallocated e s cells b n (answering (λ gone. emptied) r)
+freed-empty e s cells b n r q g k = record {
   is_set = g.is_set;
   settled = g.settled;
   extents = g.extents;
@@ -69,20 +71,21 @@ freed-empty e s cells b n r q g = record {
   place = λ c q. absurd (cc);
   empty = λ z. refl;
   some = λ z. q;
+  count = k;
   table = changed-freed e cells r.cells g.table;
 }
 
 unless-reallocated : (e : Rules) (n : ℕ) (give : Change) (move : Reallocate) (b : Block) (s : State) (cells : Cells) (x y z : Bool) → nat_eq n b.len ≡ x → nat_eq n 0 ≡ y → nat_lt limit n ≡ z → 1 ≤ b.len → is_open s ≡ true → IsSettled e s cells → e.is_out b s cells ≡ true
-    → IsFreed e s cells b (give b s cells) → (1 ≤ n → n ≤ limit → IsReallocated e s cells b n (move b s cells)) → IsReallocated e s cells b n (reallocated_unless x y z give move b s cells)
-unless-reallocated e n give move b s cells true y z p q r l o h x f g =
-    let k : b.len ≡ n = grind (arith, nat_tests) in subst (λ m. IsReallocated e s cells b m (after (moved_to b) s cells)) k (kept-in_place e s cells b b.len l o h x refl)
-unless-reallocated e n give move b s cells false true z p q r l o h x f g = freed-empty e s cells b n (give b s cells) (grind (arith, nat_tests)) f
-unless-reallocated e n give move b s cells false false true p q r l o h x f g = kept-unmoved e s cells b n (grind (arith, nat_tests)) o h
-unless-reallocated e n give move b s cells false false false p q r l o h x f g = g (grind (arith, nat_tests)) (grind (arith, nat_tests))
+    → IsFreed e s cells b (give b s cells) → length (give b s cells).cells.tags ≡ length cells.tags → (1 ≤ n → n ≤ limit → IsReallocated e s cells b n (move b s cells)) → IsReallocated e s cells b n (reallocated_unless x y z give move b s cells)
+unless-reallocated e n give move b s cells true y z p q r l o h x f k g =
+    let y : b.len ≡ n = grind (arith, nat_tests) in subst (λ m. IsReallocated e s cells b m (after (moved_to b) s cells)) y (kept-in_place e s cells b b.len l o h x refl)
+unless-reallocated e n give move b s cells false true z p q r l o h x f k g = freed-empty e s cells b n (give b s cells) (grind (arith, nat_tests)) f k
+unless-reallocated e n give move b s cells false false true p q r l o h x f k g = kept-unmoved e s cells b n (grind (arith, nat_tests)) o h
+unless-reallocated e n give move b s cells false false false p q r l o h x f k g = g (grind (arith, nat_tests)) (grind (arith, nat_tests))
 
 pub asked-reallocated : (e : Rules) (n : ℕ) (give : Change) (move : Reallocate) (b : Block) (s : State) (cells : Cells) → 1 ≤ b.len → is_open s ≡ true → IsSettled e s cells → e.is_out b s cells ≡ true
-    → IsFreed e s cells b (give b s cells) → (1 ≤ n → n ≤ limit → IsReallocated e s cells b n (move b s cells)) → IsReallocated e s cells b n (asked_to_reallocate n give move b s cells)
-asked-reallocated e n give move b s cells l o h x f g = unless-reallocated e n give move b s cells _ _ _ refl refl refl l o h x f g
+    → IsFreed e s cells b (give b s cells) → length (give b s cells).cells.tags ≡ length cells.tags → (1 ≤ n → n ≤ limit → IsReallocated e s cells b n (move b s cells)) → IsReallocated e s cells b n (asked_to_reallocate n give move b s cells)
+asked-reallocated e n give move b s cells l o h x f k g = unless-reallocated e n give move b s cells _ _ _ refl refl refl l o h x f k g
 
 -- ---- moving
 
@@ -92,12 +95,13 @@ pub record KeepsByCalls (e : Rules) : Type 0 where
   pub takes : (n : ℕ) → TakesOwn e (e.allocate n)
   pub good : Good e
   pub freed : Freeing e
+  pub gives : (b : Block) (s : State) (cells : Cells) → length (e.deallocate b s cells).cells.tags ≡ length cells.tags
   pub grown : Growing e
 
 -- a new block was served, and the old one is given back
 given-back : (e : Rules) (s : State) (cells : Cells) (b : Block) (n : ℕ) (a : After (Option Placed)) (p : Placed) (f : After Bool) → KeepsByCalls e → 1 ≤ n → a.answer ≡ Some p → e.is_out b s cells ≡ true → IsGood e s cells n a → OnlyOwnCells e cells a.cells
-    → IsFreed e a.state a.cells b f → IsReallocated e s cells b n (answering (λ given. moved_to p.block) f)
-given-back e s cells b n a p f w l q x g taken k =
+    → IsFreed e a.state a.cells b f → length f.cells.tags ≡ length a.cells.tags → IsReallocated e s cells b n (answering (λ given. moved_to p.block) f)
+given-back e s cells b n a p f w l q x g taken k same =
     let first : SameExtents e s a.state = record { at = g.extents } in
     let new_apart : AreApart e s p.block b = g.fresh p q b x in
     record {
@@ -112,6 +116,7 @@ given-back e s cells b n a p f w l q x g taken k =
       place = λ c z. let w : p.block ≡ c = cc in inr (subst (λ c. AreApart e s c b) w new_apart);
       empty = λ z. absurd (omega arith);
       some = λ z. absurd (cc);
+      count = same ∙ taken.count;
       table = changed-then e cells a.cells f.cells (changed-taken e cells a.cells taken) (changed-freed e a.cells f.cells k.table);
     }
 
@@ -128,6 +133,7 @@ not-served e s cells b n a l g taken = record {
   place = λ c q. absurd (cc);
   empty = λ z. absurd (omega arith);
   some = λ q. absurd (cc);
+  count = taken.count;
   table = changed-taken e cells a.cells taken;
 }
 
@@ -135,7 +141,7 @@ move-case : (e : Rules) (s : State) (cells : Cells) (b : Block) (n : ℕ) (o : O
     → IsReallocated e s cells b n (then_give e.deallocate b (after o t c))
 move-case e s cells b n None t c w l x g taken = not-served e s cells b n (after None t c) l g taken
 move-case e s cells b n (Some p) t c w l x g taken =
-    given-back e s cells b n (after (Some p) t c) p (e.deallocate b t c) w l refl x g taken (w.freed b t c g.is_set g.settled (g.stays b x))
+    given-back e s cells b n (after (Some p) t c) p (e.deallocate b t c) w l refl x g taken (w.freed b t c g.is_set g.settled (g.stays b x)) (w.gives b t c)
 
 move-reallocated : (e : Rules) (n : ℕ) (b : Block) (s : State) (cells : Cells) → KeepsByCalls e → 1 ≤ n → is_open s ≡ true → IsSettled e s cells → e.is_out b s cells ≡ true → IsReallocated e s cells b n (move_to (e.allocate n) e.deallocate b s cells)
 move-reallocated e n b s cells w l o h x =
@@ -161,6 +167,7 @@ after-short e s cells b n d t c z g k =
       place = λ c w. elim (k.place c w) [ inl v ↦ inl v | inr v ↦ inr (apart-moved e t s c b again v) ];
       empty = k.empty;
       some = k.some;
+      count = k.count ∙ g.table.count;
       table = changed-then e cells c z.cells (changed-taken e cells c g.table) k.table;
     }
 
@@ -180,6 +187,7 @@ after-long e s cells b n t c l g =
       place = λ d y. let w : with_len b n ≡ d = cc in inl (ap (λ (x : Block). x.place) (sym w));
       empty = λ z. absurd (omega arith);
       some = λ z. absurd (cc);
+      count = g.table.count;
       table = changed-taken e cells c g.table;
     }
 
@@ -203,7 +211,7 @@ general-reallocated e offered n b s cells w l o h x = tries-case e n b s cells o
 pub generally-reallocated : (e : Rules) (offered : Offers) → KeepsByCalls e → (n : ℕ) (b : Block) (s : State) (cells : Cells) → is_open s ≡ true → IsSettled e s cells → e.is_out b s cells ≡ true
     → IsReallocated e s cells b n (asked_to_reallocate n e.deallocate (general_reallocate n offered e.expand (e.allocate n) e.deallocate) b s cells)
 generally-reallocated e offered w n b s cells o h x =
-    asked-reallocated e n e.deallocate (general_reallocate n offered e.expand (e.allocate n) e.deallocate) b s cells (w.some b s cells x) o h x (w.freed b s cells o h x) (λ l m. general-reallocated e offered n b s cells w l o h x)
+    asked-reallocated e n e.deallocate (general_reallocate n offered e.expand (e.allocate n) e.deallocate) b s cells (w.some b s cells x) o h x (w.freed b s cells o h x) (w.gives b s cells) (λ l m. general-reallocated e offered n b s cells w l o h x)
 
 -- ---- what a child answered, shown by its parent
 

@@ -210,6 +210,7 @@ pub record ReallocateKeeps (t t' : LayerModel) (m m' : Memory) (b b' : Block) (n
   pub len : r ≡ true → b'.len ≡ n
   pub gives : 1 ≤ b'.len → IsOutOf t' m' b'
   pub apart : 1 ≤ b'.len → (c : Block) → IsOutOf t m c → AreApartIn t m b c → AreApartIn t' m' b' c
+  pub place : 1 ≤ b'.len → (b'.place ≡ b.place) ⊎ AreApartIn t' m' b' b
   pub out : (c : Block) → IsOutOf t m c → (r ≡ true → AreApartIn t m b c) → IsOutOf t' m' c
   pub extents : (c : Block) → extent_of t' m' c ≡ extent_of t m c
   pub routes : (c : Block) → IsOutOf t m c → (r ≡ true → AreApartIn t m b c) → route_of t' m' c ≡ route_of t m c

@@ -1,5 +1,5 @@
 -- Standing: what callers may rest on where a block gets another length.
-use Rattle.std.proofs.Common.{◌≡◌, refl, sym, subst, ◌∙◌, ℕ, ◌≤◌, Bool, true, arith}
+use Rattle.std.proofs.Common.{◌≡◌, refl, sym, subst, ◌∙◌, ℕ, ◌≤◌, Bool, true, arith, inl, inr, ◌⊎◌}
 use Rattle.space_core.specs.Cells.{Cells}
 use Rattle.space_core.specs.Memory.{Memory}
 use Rattle.layer_rules.specs.declared.Block.{Block}
@@ -14,15 +14,17 @@ pub record HasBlockAfter (t : LayerModel) (m : Memory) (b b' : Block) (n : ℕ) 
   pub len : r ≡ true → b'.len ≡ n
   pub out : 1 ≤ b'.len → t.rules.is_out b' rule.state rule.cells ≡ true
   pub fresh : 1 ≤ b'.len → (c : Block) → IsOutOf t m c → AreApartIn t m b c → AreApartIn t m b' c
+  pub place : 1 ≤ b'.len → (b'.place ≡ b.place) ⊎ AreApartIn t m b' b
 
 block-after : (t : LayerModel) (m : Memory) (b : Block) (n : ℕ) (a : Reallocated) (rule : After Reallocated) → rule.answer ≡ a → IsOutOf t m b → IsReallocated t.rules (state_of t m) m.cells b n rule
     → HasBlockAfter t m b (block_after b a) n (is_done a) rule
-block-after t m b n (moved_to c) rule q o g = record { len = λ d. g.len c q; out = λ l. g.out c q; fresh = λ l. g.fresh c q }
-block-after t m b n emptied rule q o g = record { len = λ d. sym (g.some q); out = λ l. absurd (omega arith); fresh = λ l. absurd (omega arith) }
+block-after t m b n (moved_to c) rule q o g = record { len = λ d. g.len c q; out = λ l. g.out c q; fresh = λ l. g.fresh c q; place = λ l. g.place c q }
+block-after t m b n emptied rule q o g = record { len = λ d. sym (g.some q); out = λ l. absurd (omega arith); fresh = λ l. absurd (omega arith); place = λ l. absurd (omega arith) }
 block-after t m b n unmoved rule q o g = record {
   len = λ d. absurd (cc);
   out = λ l. g.stays b o (λ d. absurd (let z : is_done unmoved ≡ true = subst (λ a. is_done a ≡ true) q d in cc));
   fresh = λ l c p a. a;
+  place = λ l. inl refl;
 }
 
 -- whatever the rule is by which this is done
@@ -36,6 +38,7 @@ reallocated_by-keeps t t' m m' b b' n r rule h o g a =
       len = x.len;
       gives = λ l. out-again t t' m m' rule.state rule.cells b' a.frame a.state a.cells (x.out l);
       apart = λ l c p z. record { either = rw (extents b', extents c) (x.fresh l c p z).either };
+      place = λ l. elim (x.place l) [ inl k ↦ inl k | inr k ↦ inr (record { either = rw (extents b', extents b) k.either }) ];
       out = λ c p z. out-again t t' m m' rule.state rule.cells c a.frame a.state a.cells (g.stays c p (λ d. z (a.answer ∙ d)));
       extents = extents;
       routes = λ c p z. route-again t t' m m' rule.state c a.frame a.state (g.routes c p (λ d. z (a.answer ∙ d)));

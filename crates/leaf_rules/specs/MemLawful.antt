@@ -376,7 +376,7 @@ mem-keeping tag w =
       freed = mem-freed tag w;
       grown = mem-grown tag w;
       emptied = mem-emptied tag w;
-      reallocated = generally-reallocated (mem_rules tag) mem_offers (record { some = some; takes = λ n. mem-takes tag n 1; good = mem-good tag w; freed = mem-freed tag w; grown = mem-grown tag w });
+      reallocated = generally-reallocated (mem_rules tag) mem_offers (record { some = some; takes = λ n. mem-takes tag n 1; gives = λ b s cells. length-put_run 0 (cell_at b.place) (cells_touched b.place b.len) cells.tags; good = mem-good tag w; freed = mem-freed tag w; grown = mem-grown tag w });
       aligned = mem-aligned_good tag w;
       owned = λ b s cells h. same-told (mem_rules tag) s cells h;
     }

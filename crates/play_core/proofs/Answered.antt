@@ -4,7 +4,7 @@ use Rattle.std.specs.Option.{option_map}
 use Rattle.layer_rules.specs.Rules.{Rules}
 use Rattle.heap_core.specs.Performing.{Run}
 use Rattle.play_core.specs.Lines.{joined}
-use Rattle.play_core.specs.Outcome.{Outcome, Answers, Stops, outcome}
+use Rattle.play_core.specs.Outcome.{Outcome, Answers, Silent, Stops, outcome}
 use Rattle.play_core.specs.Told.{Told, Piece, answer_piece, told_on, told_from, after, answers_on, answers_from}
 
 mapped : {A B : Type 0} (f : A → B) (o : Option A) (y : B) → option_map f o ≡ Some y → (x : A) × (o ≡ Some x) × (f x ≡ y)
@@ -17,8 +17,9 @@ some_same h = cc
 told_here : (e : Rules) (s t : Run) (n m b c : ℕ) (more : List (List ℕ)) → s ≡ t → m ≡ n → c ≡ b → told_from e n b s more ≡ after [] (told_from e m c t more)
 told_here e s t n m b c more i f g = rw (f, g, ← i) refl
 
-on_answers : (o : Outcome) (answers : Run → Option (List Piece × Run)) (rest : Run → Told) (end : Told) (n : ℕ) (s t : Run) → ((next : Run) (ps : List Piece) → answers next ≡ Some (ps, t) → rest next ≡ after ps end) → (pieces : List Piece) → answers_on o answers ≡ Some (pieces, t) → told_on n s o rest ≡ after pieces end
+on_answers : (o : Outcome) (answers : Run → Option (List Piece × Run)) (rest : Run → Told) (end : Told) (n : ℕ) (s t : Run) → ((next : Run) (ps : List Piece) → answers next ≡ Some (ps, t) → rest next ≡ after ps end) → (pieces : List Piece) → answers_on s o answers ≡ Some (pieces, t) → told_on n s o rest ≡ after pieces end
 on_answers (Stops fault) answers rest end n s t ih pieces h = absurd cc
+on_answers Silent answers rest end n s t ih pieces h = ih s pieces h
 on_answers (Answers call answer next) answers rest end n s t ih pieces h =
     let q = mapped _ (answers next) (pieces, t) h in
     let p : answer_piece call answer next ∷ q.0.0 ≡ pieces = ap (λ (x : List Piece × Run). x.0) q.2 in
@@ -36,9 +37,10 @@ told_answers e (line ∷ lines) more n b m c s t pieces h i f =
     on_answers (outcome e b s line) (λ next. answers_from e (b + length line) next lines) (λ next. told_from e (n + 1) (b + length line) next (lines ++ more)) (told_from e m c t more) n s t
     (λ next ps k. told_answers e lines more (n + 1) (b + length line) m c next t ps k (omega arith) (omega (arith, length-append line (joined lines)))) pieces h
 
-on_append : (o : Outcome) (first both : Run → Option (List Piece × Run)) (x y : List Piece) (t u : Run) → ((next : Run) (ps : List Piece) → first next ≡ Some (ps, t) → both next ≡ Some (ps ++ y, u)) → answers_on o first ≡ Some (x, t) → answers_on o both ≡ Some (x ++ y, u)
-on_append (Stops fault) first both x y t u ih h = absurd cc
-on_append (Answers call answer next) first both x y t u ih h =
+on_append : (o : Outcome) (first both : Run → Option (List Piece × Run)) (x y : List Piece) (s t u : Run) → ((next : Run) (ps : List Piece) → first next ≡ Some (ps, t) → both next ≡ Some (ps ++ y, u)) → answers_on s o first ≡ Some (x, t) → answers_on s o both ≡ Some (x ++ y, u)
+on_append (Stops fault) first both x y s t u ih h = absurd cc
+on_append Silent first both x y s t u ih h = ih s x h
+on_append (Answers call answer next) first both x y s t u ih h =
     let q = mapped _ (first next) (x, t) h in
     let p : answer_piece call answer next ∷ q.0.0 ≡ x = ap (λ (z : List Piece × Run). z.0) q.2 in
     let r : q.0.1 ≡ t = ap (λ (z : List Piece × Run). z.1) q.2 in
@@ -53,5 +55,5 @@ answers_append e [] ms b c s t u x y h k i =
     let f : b ≡ c = omega arith in
     ap (λ v. answers_from e b v ms) r ∙ ap (λ n. answers_from e n t ms) f ∙ k ∙ ap (λ qs. Some (qs ++ y, u)) ps
 answers_append e (l ∷ ls) ms b c s t u x y h k i =
-    on_append (outcome e b s l) (λ next. answers_from e (b + length l) next ls) (λ next. answers_from e (b + length l) next (ls ++ ms)) x y t u
+    on_append (outcome e b s l) (λ next. answers_from e (b + length l) next ls) (λ next. answers_from e (b + length l) next (ls ++ ms)) x y s t u
     (λ next ps g. answers_append e ls ms (b + length l) c next t u ps y g k (omega (arith, length-append l (joined ls)))) h

@@ -43,7 +43,7 @@ may_free status text r r' w w' m end (inr h) = h.free
 
 good_opens : (root : Rules) (opening : Opening) (r r' : Reading) (w w' : Writing) (m : Memory) → Opens root opening r r' w w' m Good → (w'.faults ≡ w.faults) × (r'.finished ≡ true) × (r'.faults ≡ r.faults)
 good_opens root (Err node) r r' w w' m h = absurd (says_other _ _ w w' Good h.put (λ e. cc) (λ e. cc))
-good_opens root (Ok o) r r' w w' m h = (h.2.4.counted, h.2.3, h.2.2.counted)
+good_opens root (Ok o) r r' w w' m h = (h.2.put.counted, h.2.ended, h.2.taken.counted)
 
 good_put : (text : List ℕ) (w w' : Writing) → TextPut Good text w w' Good → w'.faults ≡ w.faults
 good_put text w w' (inl h) = h.1.counted
@@ -149,7 +149,7 @@ runs_refused law command r r' w w' m end all = (
 
 read_opens : (root : Rules) (opening : Opening) (r r' : Reading) (w w' : Writing) (m : Memory) → Opens root opening r r' w w' m ReadFault → IsOk opening × (r'.finished ≡ true) × Rose r.faults r'.faults
 read_opens root (Err node) r r' w w' m h = absurd (says_other _ _ w w' ReadFault h.put (λ e. cc) (λ e. cc))
-read_opens root (Ok o) r r' w w' m h = (refl, h.2.2.finished, h.2.2.rose)
+read_opens root (Ok o) r r' w w' m h = (refl, h.2.failed.finished, h.2.failed.rose)
 
 read_by : (command : Option Command) (asked : Asked) (r r' : Reading) (w w' : Writing) (m : Memory) → MayAsk command asked → Runs asked r r' w w' m ReadFault → AsksWith IsOk command × (r'.finished ≡ true) × Rose r.faults r'.faults
 read_by command Nothing r r' w w' m a h = absurd (says_other _ _ w w' ReadFault h.put (λ e. cc) (λ e. cc))
@@ -167,7 +167,7 @@ runs_read_fault law command r r' w w' m end all e =
 
 write_opens : (root : Rules) (opening : Opening) (r r' : Reading) (w w' : Writing) (m : Memory) → Opens root opening r r' w w' m WriteFault → Rose w.faults w'.faults
 write_opens root (Err node) r r' w w' m h = says_fault _ _ w w' WriteFault h.put (λ e. cc)
-write_opens root (Ok o) r r' w w' m h = h.2.3.rose
+write_opens root (Ok o) r r' w w' m h = h.2.failed.rose
 
 write_by : (asked : Asked) (r r' : Reading) (w w' : Writing) (m : Memory) → Runs asked r r' w w' m WriteFault → Rose w.faults w'.faults
 write_by Nothing r r' w w' m h = says_fault _ _ w w' WriteFault h.put (λ e. cc)

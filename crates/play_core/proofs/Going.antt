@@ -8,15 +8,15 @@ use Rattle.heap_core.specs.declared.Call.{Call}
 use Rattle.heap_core.specs.declared.Answer.{Answer}
 use Rattle.heap_core.specs.Performing.{Run}
 use Rattle.trace_text.specs.declared.TraceFault.{TraceFault}
-use Rattle.trace_text.specs.declared.LineFault.TheVariants.{NotBuiltYet}
+use Rattle.trace_text.specs.declared.LineFault.TheVariants.{TooLong}
 use Rattle.trace_text.specs.declared.TraceFault.TheVariants.{Line as LineIn, TooMuchInput}
 use Rattle.trace_text.specs.Grammar.{line_call}
 use Rattle.trace_text.specs.Text.{answer_text, fault_text}
 use Rattle.play_core.specs.declared.Step.{Step}
 use Rattle.play_core.specs.Devices.{Writing, PutsAll}
 use Rattle.play_core.specs.Lines.{lines_of, IsOpen, joined}
-use Rattle.play_core.specs.Outcome.{Outcome, Answers, Stops, outcome, read_outcome}
-use Rattle.play_core.specs.Told.{Told, Piece, answer_piece, line_piece, told_on, told_from, after, stopped, text_of, BreaksOff}
+use Rattle.play_core.specs.Outcome.{Outcome, Answers, Silent, Stops, outcome, read_outcome}
+use Rattle.play_core.specs.Told.{Told, Piece, answers_on, answer_piece, line_piece, told_on, told_from, after, stopped, text_of, BreaksOff}
 use Rattle.play_core.specs.Place.{Place, Leads, told_at, fed, fed_place}
 use Rattle.play_core.specs.Ends.{Quiet, ByteStepped, AnswerPut, StopPut, Fed}
 use Rattle.play_core.proofs.PutLemmas.{puts_more, fails_more, puts_none_at}
@@ -71,21 +71,32 @@ leads_byte e p b opened short new = record {
   short = omega (arith, length-append p.begun (b ∷ []));
 }
 
--- a newline
-leads_line : (e : Rules) (p : Place) (call : Call) (answer : Answer) (next : Run) → IsOpen p.begun → length p.begun ≤ 256 → p.before + length p.begun + 1 ≤ 16777216 → read_outcome e p.run (line_call p.begun) ≡ Answers call answer next
-    → Leads e p (10 ∷ []) (answer_piece call answer next ∷ []) (record { number = p.number + 1; before = p.before + length p.begun + 1; begun = []; run = next })
-leads_line e p call answer next opened short within i = record {
+-- a newline, by what the line that it ends is answered
+leads_end : (e : Rules) (p : Place) (pieces : List Piece) (next : Run) → IsOpen p.begun → length p.begun ≤ 256 → p.before + length p.begun + 1 ≤ 16777216
+    → answers_on p.run (read_outcome e p.run (line_call p.begun)) (λ r. Some ([], r)) ≡ Some (pieces, next)
+    → Leads e p (10 ∷ []) pieces (record { number = p.number + 1; before = p.before + length p.begun + 1; begun = []; run = next })
+leads_end e p pieces next opened short within h = record {
   lines = (p.begun ++ 10 ∷ []) ∷ [];
   cut = record { all = sym (append-nil ((p.begun ++ 10 ∷ []) ++ []) ∙ append-nil (p.begun ++ 10 ∷ [])); whole = ((p.begun, opened, refl), tt); open_rest = tt };
-  answers = rw (out_whole e p.before p.run p.begun opened short within, i) refl;
+  answers = rw (out_whole e p.before p.run p.begun opened short within) h;
   number = omega arith;
   before = omega (arith, ap length (append-nil (p.begun ++ 10 ∷ [])), length-append p.begun (10 ∷ []));
   short = omega arith;
 }
 
+leads_line : (e : Rules) (p : Place) (call : Call) (answer : Answer) (next : Run) → IsOpen p.begun → length p.begun ≤ 256 → p.before + length p.begun + 1 ≤ 16777216 → read_outcome e p.run (line_call p.begun) ≡ Answers call answer next
+    → Leads e p (10 ∷ []) (answer_piece call answer next ∷ []) (record { number = p.number + 1; before = p.before + length p.begun + 1; begun = []; run = next })
+leads_line e p call answer next opened short within i =
+    leads_end e p (answer_piece call answer next ∷ []) next opened short within (ap (λ o. answers_on p.run o (λ r. Some ([], r))) i)
+
+-- and where that is no call
+leads_silence : (e : Rules) (p : Place) → IsOpen p.begun → length p.begun ≤ 256 → p.before + length p.begun + 1 ≤ 16777216 → read_outcome e p.run (line_call p.begun) ≡ Silent
+    → Leads e p (10 ∷ []) [] (record { number = p.number + 1; before = p.before + length p.begun + 1; begun = []; run = p.run })
+leads_silence e p opened short within i = leads_end e p [] p.run opened short within (ap (λ o. answers_on p.run o (λ r. Some ([], r))) i)
+
 -- the byte and the tests of it
 abbrev Tests : Rules → Place → (b : ℕ) (t u v : Bool) → Option Outcome
-Tests e p b t u v = cond t (Some (Stops TooMuchInput)) (cond u (Some (read_outcome e p.run (line_call p.begun))) (cond v (Some (Stops (LineIn NotBuiltYet))) None))
+Tests e p b t u v = cond t (Some (Stops TooMuchInput)) (cond u (Some (read_outcome e p.run (line_call p.begun))) (cond v (Some (Stops (LineIn TooLong))) None))
 
 abbrev Next : Place → (b : ℕ) → (u : Bool) → (next : Run) → Place
 Next p b u next = cond u (record { number = p.number + 1; before = p.before + length p.begun + 1; begun = []; run = next }) (record { number = p.number; before = p.before; begun = p.begun ++ b ∷ []; run = next })
@@ -97,12 +108,26 @@ answers_by e p b call answer next true u v d i opened short h = absurd (let x : 
 answers_by e p b call answer next false true v d i opened short h =
     let n : 10 ≡ b = grind (arith, nat_tests, i) in
     subst (λ c. Leads e p (c ∷ []) (answer_piece call answer next ∷ []) (Next p b true next)) n (leads_line e p call answer next opened short (grind (arith, nat_tests, d)) (some_same h))
-answers_by e p b call answer next false false true d i opened short h = absurd (let x : Stops (LineIn NotBuiltYet) ≡ Answers call answer next = some_same h in cc)
+answers_by e p b call answer next false false true d i opened short h = absurd (let x : Stops (LineIn TooLong) ≡ Answers call answer next = some_same h in cc)
 answers_by e p b call answer next false false false d i opened short h = absurd cc
 
 fed_answers : (e : Rules) (p : Place) (b : ℕ) (call : Call) (answer : Answer) (next : Run) → IsOpen p.begun → length p.begun ≤ 256 → fed e p b ≡ Some (Answers call answer next) → Leads e p (b ∷ []) (answer_piece call answer next ∷ []) (fed_place p b next)
 unfolding fed fed_place
 fed_answers e p b call answer next opened short h = answers_by e p b call answer next _ _ _ refl refl opened short h
+
+-- so does the end of a line that is no call
+silent_by : (e : Rules) (p : Place) (b : ℕ) (t u v : Bool) → nat_lt 16777216 (p.before + length p.begun + 1) ≡ t → nat_eq b 10 ≡ u → IsOpen p.begun → length p.begun ≤ 256
+    → Tests e p b t u v ≡ Some Silent → Leads e p (b ∷ []) [] (Next p b u p.run)
+silent_by e p b true u v d i opened short h = absurd (let x : Stops TooMuchInput ≡ Silent = some_same h in cc)
+silent_by e p b false true v d i opened short h =
+    let n : 10 ≡ b = grind (arith, nat_tests, i) in
+    subst (λ c. Leads e p (c ∷ []) [] (Next p b true p.run)) n (leads_silence e p opened short (grind (arith, nat_tests, d)) (some_same h))
+silent_by e p b false false true d i opened short h = absurd (let x : Stops (LineIn TooLong) ≡ Silent = some_same h in cc)
+silent_by e p b false false false d i opened short h = absurd cc
+
+fed_silent : (e : Rules) (p : Place) (b : ℕ) → IsOpen p.begun → length p.begun ≤ 256 → fed e p b ≡ Some Silent → Leads e p (b ∷ []) [] (fed_place p b p.run)
+unfolding fed fed_place
+fed_silent e p b opened short h = silent_by e p b _ _ _ refl refl opened short h
 
 -- nothing is done only for one more byte of a line
 quiet_by : (e : Rules) (p : Place) (b : ℕ) (t u v : Bool) → nat_eq b 10 ≡ u → nat_eq (length p.begun) 256 ≡ v → IsOpen p.begun → length p.begun ≤ 256
@@ -168,13 +193,13 @@ breaks_more all rest x text run e k = record {
 pub breaks_after : (e : Rules) (p q : Place) (a rest : List ℕ) (x : List Piece) (text : List ℕ) (run : Run) → Leads e p a x q → BreaksOff (told_at e q rest) text run → BreaksOff (told_at e p (a ++ rest)) (text_of x ++ text) run
 breaks_after e p q a rest x text run h k = breaks_more (told_at e p (a ++ rest)) (told_at e q rest) x text run (told_leads e p q a rest x h) k
 
-quiet_fed : (e : Rules) (p : Place) (b : ℕ) (now : Run) (old new : Writing) (q : Place) (end : Step) → IsOpen p.begun → length p.begun ≤ 256 → fed e p b ≡ None → Quiet p.run now old new end
+quiet_fed : (e : Rules) (p : Place) (b : ℕ) (now : Run) (old new : Writing) (q : Place) (end : Step) → Leads e p (b ∷ []) [] (fed_place p b p.run) → Quiet p.run now old new end
     → (end ≡ step.Goes → q ≡ fed_place p b now) → Fed e p (b ∷ []) q old new end
-quiet_fed e p b now old new q step.Stops opened short h put place = absurd put
-quiet_fed e p b now old new q step.SinkFailed opened short h put place = absurd put
-quiet_fed e p b now old new q step.Goes opened short h put place =
+quiet_fed e p b now old new q step.Stops h put place = absurd put
+quiet_fed e p b now old new q step.SinkFailed h put place = absurd put
+quiet_fed e p b now old new q step.Goes h put place =
     let w : fed_place p b p.run ≡ q = ap (fed_place p b) (sym put.0) ∙ sym (place refl) in
-    ([], puts_none_at old new put.1, subst (λ r. Leads e p (b ∷ []) [] r) w (fed_quiet e p b opened short h))
+    ([], puts_none_at old new put.1, subst (λ r. Leads e p (b ∷ []) [] r) w h)
 
 answers_fed : (e : Rules) (p : Place) (b : ℕ) (call : Call) (answer : Answer) (next now : Run) (old new : Writing) (q : Place) (end : Step) → IsOpen p.begun → length p.begun ≤ 256 → fed e p b ≡ Some (Answers call answer next) → now ≡ next → AnswerPut old new (answer_text call answer) end
     → (end ≡ step.Goes → q ≡ fed_place p b now) → q.run ≡ now → Fed e p (b ∷ []) q old new end
@@ -210,7 +235,8 @@ stops_fed e p b fault now old new q step.SinkFailed opened short h is put at = (
 
 by_outcome : (e : Rules) (p : Place) (b : ℕ) (o : Option Outcome) (now : Run) (old new : Writing) (q : Place) (end : Step) → fed e p b ≡ o → IsOpen p.begun → length p.begun ≤ 256 → ByteStepped o p.number p.run now old new end
     → (end ≡ step.Goes → q ≡ fed_place p b now) → q.run ≡ now → Fed e p (b ∷ []) q old new end
-by_outcome e p b None now old new q end is opened short h place at = quiet_fed e p b now old new q end opened short is h place
+by_outcome e p b None now old new q end is opened short h place at = quiet_fed e p b now old new q end (fed_quiet e p b opened short is) h place
+by_outcome e p b (Some Silent) now old new q end is opened short h place at = quiet_fed e p b now old new q end (fed_silent e p b opened short is) h place
 by_outcome e p b (Some (Answers call answer next)) now old new q end is opened short h place at = answers_fed e p b call answer next now old new q end opened short is h.0 h.1 place at
 by_outcome e p b (Some (Stops fault)) now old new q end is opened short h place at = stops_fed e p b fault now old new q end opened short is h.0 h.1 at
 

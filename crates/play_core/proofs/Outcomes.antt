@@ -3,7 +3,7 @@ use Rattle.std.proofs.Common.{◌≡◌, ℕ, ◌+◌, ◌≤◌, Bool, true, fa
 use Rattle.std.proofs.lemmas.Bool.Decides.{nat_tests}
 use Rattle.layer_rules.specs.Rules.{Rules}
 use Rattle.heap_core.specs.Performing.{Run}
-use Rattle.trace_text.specs.declared.LineFault.TheVariants.{NotBuiltYet}
+use Rattle.trace_text.specs.declared.LineFault.TheVariants.{TooLong}
 use Rattle.trace_text.specs.declared.TraceFault.TheVariants.{Line as LineIn, TooMuchInput}
 use Rattle.trace_text.specs.Grammar.{line_call}
 use Rattle.play_core.specs.Lines.{body_of, IsOpen}
@@ -28,7 +28,7 @@ out_last e before run xs h short within = by_tests e before run xs xs (ap body_o
 pub out_whole : (e : Rules) (before : ℕ) (run : Run) (xs : List ℕ) → IsOpen xs → length xs ≤ 256 → before + length xs + 1 ≤ 16777216 → outcome e before run (xs ++ 10 ∷ []) ≡ read_outcome e run (line_call xs)
 out_whole e before run xs h short within = by_tests e before run (xs ++ 10 ∷ []) xs (body_begin xs (10 ∷ []) h ∙ append-nil xs) short (omega (arith, length-append xs (10 ∷ [])))
 
-pub out_long : (e : Rules) (before : ℕ) (run : Run) (xs : List ℕ) (b : ℕ) (more : List ℕ) → IsOpen xs → nat_eq b 10 ≡ false → length xs ≡ 256 → before + 257 ≤ 16777216 → outcome e before run (xs ++ b ∷ more) ≡ Stops (LineIn NotBuiltYet)
+pub out_long : (e : Rules) (before : ℕ) (run : Run) (xs : List ℕ) (b : ℕ) (more : List ℕ) → IsOpen xs → nat_eq b 10 ≡ false → length xs ≡ 256 → before + 257 ≤ 16777216 → outcome e before run (xs ++ b ∷ more) ≡ Stops (LineIn TooLong)
 unfolding outcome
 out_long e before run xs b more h new long within =
     let f : body_of (b ∷ more) ≡ b ∷ body_of more = rw new refl in

@@ -2,8 +2,11 @@
 use Rattle.std.proofs.Common.{◌≡◌, ℕ, zero, suc, ◌+◌, ◌≤◌, ◌<◌, List, [], ◌∷◌, ◌++◌, length, take, drop, map, Option, Some, None, Result, Ok, Err, refl, sym, ap, ◌∙◌, subst, append_assoc, append-nil, arith, get_or, drop-cons, add-one, codes, ◌-◌}
 use Rattle.std.specs.Prelude.{slice_get, IsErr}
 use Rattle.std.proofs.Math.ListN.{drop_of_length-le}
+use Rattle.std.proofs.lemmas.List.{take_all}
 use Rattle.space_core.specs.Memory.{Memory}
 use Rattle.layer_rules.specs.declared.Fact.{Fact}
+use Rattle.layer_rules.specs.declared.Stats.{Stats}
+use Rattle.layer_rules.specs.Fields.{stats_numbers}
 use Rattle.layer_rules.specs.Layering.{LayerModel, state_of}
 use Rattle.layer_rules.specs.Rules.{Rules}
 use Rattle.heap_core.specs.declared.Named.{Named}
@@ -14,7 +17,7 @@ use Rattle.play_core.proofs.Answered.{some_same}
 use Rattle.play_core.specs.declared.Status.TheVariants.{Good, WriteFault}
 use Rattle.play_core.specs.Devices.{Writing, PutsAll, Fails}
 use Rattle.play_core.specs.Lines.{joined}
-use Rattle.play_core.specs.ReportText.{and_lines, asked_in, extent_in, fact_line, node_lines, report_of, total_line, total_lines}
+use Rattle.play_core.specs.ReportText.{and_lines, asked_in, extent_in, fact_line, node_lines, node_words, report_of, spaced, stats_line, total_line, total_lines}
 use Rattle.play_core.specs.Told.{line_piece, reported, text_of}
 use Rattle.play_core.specs.Ends.{LinesPut, PutsLines, Finishes}
 use Rattle.play_core.proofs.LineFacts.{joined-append}
@@ -144,6 +147,12 @@ node_some a b o line r e h = subst (λ (x : Option (List ℕ)). LinesPut a b (an
 
 pub node_none : (w : Writing) (o : Option (List ℕ)) → None ≡ o → PutsAll w w (joined (and_lines o []))
 node_none w o e = subst (λ (x : Option (List ℕ)). PutsAll w w (joined (and_lines x []))) e (puts_none w)
+
+-- the line of a statistics layer, once all its numbers are put
+pub stats_told : (node i : ℕ) (stats : Stats) (numbers line all : List ℕ) → numbers ≡ stats_numbers stats → length numbers ≤ i → line ≡ node_words node (codes "stats") ++ spaced (take i numbers)
+    → all ≡ line ++ 10 ∷ [] → all ≡ stats_line node stats
+stats_told node i stats numbers line all n le l a =
+    a ∙ ap (λ xs. xs ++ 10 ∷ []) (l ∙ ap (λ ns. node_words node (codes "stats") ++ spaced ns) (take_all i numbers le ∙ n))
 
 -- the totals, line by line
 pub totals_put : (t : LayerModel) (table : List Named) (m : Memory) (a b : Writing) (live asked taken slack : ℕ) (x y z u : List ℕ) (r : Result (Unit {0}) Failed)

@@ -1,5 +1,5 @@
 -- What holds while a source is read, and at its end.
-use Rattle.std.proofs.Common.{◌≡◌, ℕ, ◌+◌, ◌-◌, ◌≤◌, ◌<◌, Bool, true, false, List, [], ◌∷◌, ◌++◌, length, take, Option, Some, None, append-nil, append_assoc, sym, ap, ◌∙◌, subst, refl, arith, length-append, nat_eq}
+use Rattle.std.proofs.Common.{◌≡◌, ℕ, ◌+◌, ◌-◌, ◌≤◌, ◌<◌, Bool, true, false, List, [], ◌∷◌, ◌++◌, length, take, Option, Some, None, append-nil, append_assoc, sym, ap, ◌∙◌, subst, refl, arith, length-append, length-take, min, nat_eq}
 use Rattle.std.proofs.lemmas.Bool.Decides.{nat_tests}
 use Rattle.std.proofs.lemmas.List.Concat.{flat_map-append}
 use Rattle.layer_rules.specs.Rules.{Rules}
@@ -13,12 +13,12 @@ use Rattle.play_core.specs.declared.reader.Reader.{Reader}
 use Rattle.play_core.specs.declared.Step.{Step}
 use Rattle.play_core.specs.Devices.{Writing, Reading, PutsAll, Took, MayBe}
 use Rattle.play_core.specs.Lines.{IsOpen, lines_of, joined}
-use Rattle.play_core.specs.Outcome.{Outcome, Answers, Stops, read_outcome}
+use Rattle.play_core.specs.Outcome.{Outcome, Answers, Silent, Stops, read_outcome}
 use Rattle.play_core.specs.Told.{Told, Piece, answer_piece, line_piece, told, told_from, told_on, after, stopped, reported, text_of, BreaksOff}
 use Rattle.play_core.specs.Place.{Place, start_of, told_at, place_of}
 use Rattle.play_core.specs.Ends.{Fed, Stepped, Lasts, Finishes}
 use Rattle.play_core.specs.Ran.{Ran}
-use Rattle.play_core.proofs.PutLemmas.{puts_none, puts_more, fails_more}
+use Rattle.play_core.proofs.PutLemmas.{puts_none, puts_none_at, puts_more, fails_more}
 use Rattle.play_core.proofs.LineFacts.{lines_open}
 use Rattle.play_core.proofs.Outcomes.{out_last}
 use Rattle.play_core.proofs.Going.{told_leads, breaks_first, breaks_after, breaks_more, fed_then, fed_none}
@@ -36,6 +36,9 @@ last_by e (Answers call answer next) all n s t old new step.SinkFailed i h = (
   subst (λ u. BreaksOff all (take h.1.0 (answer_text call answer)) u) (sym h.0)
       (breaks_first all (answer_piece call answer next) (reported e next).pieces h.1.0 (ap (λ (x : Told). x.pieces) i) h.1.1),
 )
+last_by e Silent all n s t old new step.Goes i h = ([], puts_none_at old new h.1, i ∙ ap (λ u. after [] (reported e u)) (sym h.0))
+last_by e Silent all n s t old new step.Stops i h = absurd h
+last_by e Silent all n s t old new step.SinkFailed i h = absurd h
 last_by e (Stops fault) all n s t old new step.Goes i h = absurd h.1
 last_by e (Stops fault) all n s t old new step.Stops i h =
     (line_piece t (fault_text n fault) ∷ [], subst (λ xs. PutsAll old new xs) (sym (append-nil (fault_text n fault))) h.1, i ∙ ap (stopped n fault) (sym h.0))
@@ -74,6 +77,10 @@ last_finish e f all t old mid new OpeningRefused same h k = absurd k
 last_finish e f all t old mid new NoMemory same h k = absurd k
 
 -- ---- while a source is read
+
+-- how far bytes lead
+pub fed_far : (e : Rules) (p q : Place) (b : List ℕ) (w w' : Writing) → Fed e p b q w w' step.Goes → q.before + length q.begun ≡ p.before + length p.begun + length b
+fed_far e p q b w w' h = omega (arith, h.2.before, ap length h.2.cut.all, length-append p.begun b, length-append (joined h.2.lines) q.begun)
 
 takes_none : (a : Option (List ℕ)) → Takes a a []
 takes_none None = tt
@@ -128,27 +135,39 @@ whole_by : (b : Bool) (bytes input : List ℕ) → b ≡ true → MayBe b bytes 
 whole_by true bytes input i h = h
 whole_by false bytes input i h = absurd cc
 
+-- how many bytes were taken, by where they led
+going_far : (e : Rules) (s : Run) (r r' : Reading) (w w' : Writing) (q : Place) (h : Going e s r r' w w' q) → length h.bytes ≡ q.before + length q.begun
+going_far e s r r' w w' q h = let far : 0 + 0 + length h.bytes ≡ q.before + length q.begun = sym (fed_far e (start_of s) q h.bytes w w' h.fed) in omega (arith, far)
+
+-- and with those that are asked for, not more than one too much
+going_few : (e : Rules) (s : Run) (r r' : Reading) (w w' : Writing) (q : Place) (b : List ℕ) (h : Going e s r r' w w' q) → length b ≤ 16777217 - (q.before + length q.begun) → q.before + length q.begun ≤ 16777216 → length (h.bytes ++ b) ≤ 16777217
+going_few e s r r' w w' q b h few within = omega (arith, going_far e s r r' w w' q h, length-append h.bytes b, few, within)
+
 -- a line was in fault
-pub going_stops : (e : Rules) (s : Run) (r r' r'' : Reading) (w w' w'' : Writing) (p q : Place) (b : List ℕ) → Going e s r r' w w' p → Takes r'.left r''.left b → r''.faults ≡ r'.faults → r''.finished ≡ false → Fed e p b q w' w'' step.Stops → Ran e s q.run r r'' w w'' Trace
-going_stops e s r r' r'' w w' w'' p q b h t c i f =
-    let g = fed_then e (start_of s) p q h.bytes b w w' w'' step.Stops h.fed f in (
-      h.bytes ++ b,
-      g.0,
-      record { taken = takes_more r.left r'.left r''.left h.bytes b h.taken t; counted = c ∙ h.counted; at_end = λ x. absurd (let y : true ≡ false = sym x ∙ i in cc) },
-      g.1,
-      λ input m. let k = begun_by r''.finished (h.bytes ++ b) input i m in ap (told e s) k.1 ∙ g.2 k.0,
-    )
+pub going_stops : (e : Rules) (s : Run) (r r' r'' : Reading) (w w' w'' : Writing) (p q : Place) (b : List ℕ) → Going e s r r' w w' p → Takes r'.left r''.left b → r''.faults ≡ r'.faults → r''.finished ≡ false → length b ≤ 16777217 - (p.before + length p.begun) → p.before + length p.begun ≤ 16777216 → Fed e p b q w' w'' step.Stops → Ran e s q.run r r'' w w'' Trace
+going_stops e s r r' r'' w w' w'' p q b h t c i few within f =
+    let g = fed_then e (start_of s) p q h.bytes b w w' w'' step.Stops h.fed f in
+    record {
+      bytes = h.bytes ++ b;
+      pieces = g.0;
+      taken = record { taken = takes_more r.left r'.left r''.left h.bytes b h.taken t; counted = c ∙ h.counted; at_end = λ x. absurd (let y : true ≡ false = sym x ∙ i in cc) };
+      few = going_few e s r r' w w' p b h few within;
+      put = g.1;
+      tells = λ input m. let k = begun_by r''.finished (h.bytes ++ b) input i m in ap (told e s) k.1 ∙ g.2 k.0;
+    }
 
 -- the sink failed
-pub going_breaks : (e : Rules) (s : Run) (r r' r'' : Reading) (w w' w'' : Writing) (p q : Place) (b : List ℕ) → Going e s r r' w w' p → Takes r'.left r''.left b → r''.faults ≡ r'.faults → r''.finished ≡ false → Fed e p b q w' w'' step.SinkFailed → Ran e s q.run r r'' w w'' WriteFault
-going_breaks e s r r' r'' w w' w'' p q b h t c i f =
-    let g = fed_then e (start_of s) p q h.bytes b w w' w'' step.SinkFailed h.fed f in (
-      h.bytes ++ b,
-      g.0,
-      record { taken = takes_more r.left r'.left r''.left h.bytes b h.taken t; counted = c ∙ h.counted; at_end = λ x. absurd (let y : true ≡ false = sym x ∙ i in cc) },
-      g.1,
-      λ input m. let k = begun_by r''.finished (h.bytes ++ b) input i m in subst (λ xs. BreaksOff (told e s xs) g.0 q.run) (sym k.1) (g.2 k.0),
-    )
+pub going_breaks : (e : Rules) (s : Run) (r r' r'' : Reading) (w w' w'' : Writing) (p q : Place) (b : List ℕ) → Going e s r r' w w' p → Takes r'.left r''.left b → r''.faults ≡ r'.faults → r''.finished ≡ false → length b ≤ 16777217 - (p.before + length p.begun) → p.before + length p.begun ≤ 16777216 → Fed e p b q w' w'' step.SinkFailed → Ran e s q.run r r'' w w'' WriteFault
+going_breaks e s r r' r'' w w' w'' p q b h t c i few within f =
+    let g = fed_then e (start_of s) p q h.bytes b w w' w'' step.SinkFailed h.fed f in
+    record {
+      bytes = h.bytes ++ b;
+      text = g.0;
+      taken = record { taken = takes_more r.left r'.left r''.left h.bytes b h.taken t; counted = c ∙ h.counted; at_end = λ x. absurd (let y : true ≡ false = sym x ∙ i in cc) };
+      few = going_few e s r r' w w' p b h few within;
+      failed = g.1;
+      tells = λ input m. let k = begun_by r''.finished (h.bytes ++ b) input i m in subst (λ xs. BreaksOff (told e s xs) g.0 q.run) (sym k.1) (g.2 k.0);
+    }
 
 still_at_end : (a b : Option (List ℕ)) → Takes a b [] → IsAtEnd a → IsAtEnd b
 still_at_end (Some a) (Some b) h k = sym h ∙ k
@@ -164,38 +183,36 @@ end_took e s r r' r'' w w' q h x z c = record {
 }
 
 -- the end came
-pub going_ends : (e : Rules) (s t : Run) (r r' r'' : Reading) (w w' w'' : Writing) (q : Place) (end : Status) → Going e s r r' w w' q → Takes r'.left r''.left [] → IsAtEnd r'.left → r''.faults ≡ r'.faults → r''.finished ≡ true → Finishes (told_at e q []) t w' w'' end → Ran e s t r r'' w w'' end
-going_ends e s t r r' r'' w w' w'' q Good h x z c i f = (
-  h.bytes,
-  h.fed.0 ++ f.0,
-  end_took e s r r' r'' w w' q h x z c,
-  i,
-  subst (λ xs. PutsAll w w'' xs) (sym (flat_map-append (λ (x : Piece). x.text) h.fed.0 f.0)) (puts_more w w' w'' _ _ h.fed.1 f.1),
-  ap (told e s) (sym (append-nil h.bytes)) ∙ told_leads e (start_of s) q h.bytes [] h.fed.0 h.fed.2 ∙ ap (after h.fed.0) f.2,
-)
-going_ends e s t r r' r'' w w' w'' q Trace h x z c i f = (
-  h.bytes,
-  h.fed.0 ++ f.0,
-  end_took e s r r' r'' w w' q h x z c,
-  subst (λ xs. PutsAll w w'' xs) (sym (flat_map-append (λ (x : Piece). x.text) h.fed.0 f.0)) (puts_more w w' w'' _ _ h.fed.1 f.1),
-  λ input m. ap (told e s) (whole_by r''.finished h.bytes input i m) ∙ ap (told e s) (sym (append-nil h.bytes)) ∙ told_leads e (start_of s) q h.bytes [] h.fed.0 h.fed.2 ∙ ap (after h.fed.0) f.2,
-)
-going_ends e s t r r' r'' w w' w'' q WriteFault h x z c i f = (
-  h.bytes,
-  text_of h.fed.0 ++ f.0,
-  end_took e s r r' r'' w w' q h x z c,
-  fails_more w w' w'' _ _ h.fed.1 f.1,
-  λ input m. subst (λ xs. BreaksOff (told e s xs) (text_of h.fed.0 ++ f.0) t) (append-nil h.bytes ∙ sym (whole_by r''.finished h.bytes input i m)) (breaks_after e (start_of s) q h.bytes [] h.fed.0 f.0 t h.fed.2 f.2),
-)
-going_ends e s t r r' r'' w w' w'' q Usage h x z c i f = absurd f
-going_ends e s t r r' r'' w w' w'' q Expression h x z c i f = absurd f
-going_ends e s t r r' r'' w w' w'' q ReadFault h x z c i f = absurd f
-going_ends e s t r r' r'' w w' w'' q OpeningRefused h x z c i f = absurd f
-going_ends e s t r r' r'' w w' w'' q NoMemory h x z c i f = absurd f
-
--- how far bytes lead
-pub fed_far : (e : Rules) (p q : Place) (b : List ℕ) (w w' : Writing) → Fed e p b q w w' step.Goes → q.before + length q.begun ≡ p.before + length p.begun + length b
-fed_far e p q b w w' h = omega (arith, h.2.before, ap length h.2.cut.all, length-append p.begun b, length-append (joined h.2.lines) q.begun)
+pub going_ends : (e : Rules) (s t : Run) (r r' r'' : Reading) (w w' w'' : Writing) (q : Place) (end : Status) → Going e s r r' w w' q → Takes r'.left r''.left [] → IsAtEnd r'.left → r''.faults ≡ r'.faults → r''.finished ≡ true → q.before + length q.begun ≤ 16777216 → Finishes (told_at e q []) t w' w'' end → Ran e s t r r'' w w'' end
+going_ends e s t r r' r'' w w' w'' q Good h x z c i within f = record {
+  bytes = h.bytes;
+  pieces = h.fed.0 ++ f.0;
+  taken = end_took e s r r' r'' w w' q h x z c;
+  ended = i;
+  put = subst (λ xs. PutsAll w w'' xs) (sym (flat_map-append (λ (x : Piece). x.text) h.fed.0 f.0)) (puts_more w w' w'' _ _ h.fed.1 f.1);
+  tells = ap (told e s) (sym (append-nil h.bytes)) ∙ told_leads e (start_of s) q h.bytes [] h.fed.0 h.fed.2 ∙ ap (after h.fed.0) f.2;
+}
+going_ends e s t r r' r'' w w' w'' q Trace h x z c i within f = record {
+  bytes = h.bytes;
+  pieces = h.fed.0 ++ f.0;
+  taken = end_took e s r r' r'' w w' q h x z c;
+  few = omega (arith, going_far e s r r' w w' q h, within);
+  put = subst (λ xs. PutsAll w w'' xs) (sym (flat_map-append (λ (x : Piece). x.text) h.fed.0 f.0)) (puts_more w w' w'' _ _ h.fed.1 f.1);
+  tells = λ input m. ap (told e s) (whole_by r''.finished h.bytes input i m) ∙ ap (told e s) (sym (append-nil h.bytes)) ∙ told_leads e (start_of s) q h.bytes [] h.fed.0 h.fed.2 ∙ ap (after h.fed.0) f.2;
+}
+going_ends e s t r r' r'' w w' w'' q WriteFault h x z c i within f = record {
+  bytes = h.bytes;
+  text = text_of h.fed.0 ++ f.0;
+  taken = end_took e s r r' r'' w w' q h x z c;
+  few = omega (arith, going_far e s r r' w w' q h, within);
+  failed = fails_more w w' w'' _ _ h.fed.1 f.1;
+  tells = λ input m. subst (λ xs. BreaksOff (told e s xs) (text_of h.fed.0 ++ f.0) t) (append-nil h.bytes ∙ sym (whole_by r''.finished h.bytes input i m)) (breaks_after e (start_of s) q h.bytes [] h.fed.0 f.0 t h.fed.2 f.2);
+}
+going_ends e s t r r' r'' w w' w'' q Usage h x z c i within f = absurd f
+going_ends e s t r r' r'' w w' w'' q Expression h x z c i within f = absurd f
+going_ends e s t r r' r'' w w' w'' q ReadFault h x z c i within f = absurd f
+going_ends e s t r r' r'' w w' w'' q OpeningRefused h x z c i within f = absurd f
+going_ends e s t r r' r'' w w' w'' q NoMemory h x z c i within f = absurd f
 
 -- a source that gave some bytes isn't finished
 pub not_ended : (count : ℕ) (finished : Bool) → finished ≡ nat_eq count 0 → (count ≡ 0 → ⊥) → finished ≡ false
@@ -207,6 +224,10 @@ ended count finished e h = e ∙ grind (arith, nat_tests)
 -- no byte was taken
 pub takes_nothing : (a b : Option (List ℕ)) (bytes : List ℕ) (count : ℕ) → Takes a b (take count bytes) → count ≡ 0 → Takes a b []
 takes_nothing a b bytes count h e = subst (λ n. Takes a b (take n bytes)) e h
+
+-- no more bytes come than are missing
+pub took_few : (count : ℕ) (into room : List ℕ) (want before begun len : ℕ) → length into ≡ length (take want room) → want ≡ min (16777217 - before - len) 4096 → len ≡ begun → length (take count into) ≤ 16777217 - (before + begun)
+took_few count into room want before begun len long most is = omega (arith, length-take count into, length-take want room, long, most, is)
 
 -- the bytes may be given otherwise, on a heap whose shape stays
 pub fed_along : (e f : Rules) (p q : Place) (b c : List ℕ) (w w' : Writing) (end : Step) → f ≡ e → c ≡ b → Fed f p c q w w' end → Fed e p b q w w' end

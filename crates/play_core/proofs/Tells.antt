@@ -58,12 +58,12 @@ plays_told root all again w w' m end e h = subst (λ (x : Told). IsTold (Plays r
 ran_told : (root : Rules) (s t : Run) (r r' : Reading) (w w' : Writing) (m : Memory) (end : Status) (input : List ℕ) → Ran root s t r r' w w' end → Leaves root t m
     → (Rose r.faults r'.faults → ⊥) → (Rose w.faults w'.faults → ⊥) → r.left ≡ Some input → IsTold (Plays root (told root s input)) w w' m end
 ran_told root s t r r' w w' m Good input h l nr nw i =
-    let is = took_all r r' h.0 input h.2 h.3 i in
-    plays_told root (record { status = Good; pieces = h.1; run = t }) (told root s input) w w' m Good (ap (told root s) (sym is) ∙ h.5) (refl, h.4.appended, l)
+    let is = took_all r r' h.bytes input h.taken h.ended i in
+    plays_told root (record { status = Good; pieces = h.pieces; run = t }) (told root s input) w w' m Good (ap (told root s) (sym is) ∙ h.tells) (refl, h.put.appended, l)
 ran_told root s t r r' w w' m Trace input h l nr nw i =
-    plays_told root (record { status = Trace; pieces = h.1; run = t }) (told root s input) w w' m Trace (h.4 input (may_be r r' h.0 input r'.finished refl h.2 i)) (refl, h.3.appended, l)
-ran_told root s t r r' w w' m ReadFault input h l nr nw i = absurd (nr h.2.rose)
-ran_told root s t r r' w w' m WriteFault input h l nr nw i = absurd (nw h.3.rose)
+    plays_told root (record { status = Trace; pieces = h.pieces; run = t }) (told root s input) w w' m Trace (h.tells input (may_be r r' h.bytes input r'.finished refl h.taken i)) (refl, h.put.appended, l)
+ran_told root s t r r' w w' m ReadFault input h l nr nw i = absurd (nr h.failed.rose)
+ran_told root s t r r' w w' m WriteFault input h l nr nw i = absurd (nw h.failed.rose)
 ran_told root s t r r' w w' m Usage input h l nr nw i = absurd h
 ran_told root s t r r' w w' m Expression input h l nr nw i = absurd h
 ran_told root s t r r' w w' m OpeningRefused input h l nr nw i = absurd h
@@ -96,7 +96,7 @@ may_not_trace status text r r' w w' m end (inl h) e a = let s = h.status in cc
 may_not_trace status text r r' w w' m end (inr h) e a = not_trace status text w w' end h.put e a
 
 ran_trace : (root : Rules) (s t : Run) (r r' : Reading) (w w' : Writing) (input : List ℕ) → Ran root s t r r' w w' Trace → r.left ≡ Some input → (told root s input).status ≡ Trace
-ran_trace root s t r r' w w' input h i = ap (λ (x : Told). x.status) (h.4 input (may_be r r' h.0 input r'.finished refl h.2 i))
+ran_trace root s t r r' w w' input h i = ap (λ (x : Told). x.status) (h.tells input (may_be r r' h.bytes input r'.finished refl h.taken i))
 
 opens_trace : (root : Rules) (opening : Opening) (r r' : Reading) (w w' : Writing) (m : Memory) (end : Status) (input : List ℕ) → Opens root opening r r' w w' m end → end ≡ Trace → r.left ≡ Some input
     → status_of (told_opening root opening input) ≡ Trace

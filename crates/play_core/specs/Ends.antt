@@ -14,7 +14,7 @@ use Rattle.play_core.specs.declared.Status.TheVariants.{Good, Usage, Expression,
 use Rattle.play_core.specs.declared.Step.{Step}
 use Rattle.play_core.specs.Devices.{Writing, PutsAll, PutsPart, Fails}
 use Rattle.play_core.specs.Lines.{joined}
-use Rattle.play_core.specs.Outcome.{Outcome, Answers, Stops}
+use Rattle.play_core.specs.Outcome.{Outcome, Answers, Silent, Stops}
 use Rattle.play_core.specs.Told.{Told, Piece, BreaksOff, text_of, after, reported}
 use Rattle.play_core.specs.Place.{Place, Leads, told_at}
 use Rattle.play_core.specs.declared.Step.TheVariants as step
@@ -41,16 +41,17 @@ AnswerPut old new text step.Goes = PutsAll old new text
 AnswerPut old new text step.SinkFailed = PutsPart old new text
 AnswerPut old new text step.Stops = ⊥
 
--- one line, by what it does
-abbrev pub Stepped : Outcome → (number : ℕ) (run now : Run) (old new : Writing) → Step → Type 0
-Stepped (Answers call answer next) number run now old new end = (now ≡ next) × AnswerPut old new (answer_text call answer) end
-Stepped (Stops fault) number run now old new end = (now ≡ run) × StopPut old new (fault_text number fault) end
-
--- one byte that is one more of its line
+-- nothing is to be done
 abbrev pub Quiet : (run now : Run) (old new : Writing) → Step → Type 0
 Quiet run now old new step.Goes = (now ≡ run) × (new ≡ old)
 Quiet run now old new step.Stops = ⊥
 Quiet run now old new step.SinkFailed = ⊥
+
+-- one line, by what it does
+abbrev pub Stepped : Outcome → (number : ℕ) (run now : Run) (old new : Writing) → Step → Type 0
+Stepped (Answers call answer next) number run now old new end = (now ≡ next) × AnswerPut old new (answer_text call answer) end
+Stepped Silent number run now old new end = Quiet run now old new end
+Stepped (Stops fault) number run now old new end = (now ≡ run) × StopPut old new (fault_text number fault) end
 
 -- one byte, by what it does
 abbrev pub ByteStepped : Option Outcome → (number : ℕ) (run now : Run) (old new : Writing) → Step → Type 0

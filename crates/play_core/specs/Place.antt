@@ -2,12 +2,12 @@
 use Rattle.std.specs.Prelude.{◌≡◌, ℕ, ◌+◌, ◌≤◌, List, ◌∷◌, [], ◌++◌, length, Option, Some, None, nat_eq, nat_lt, if◌then◌else◌}
 use Rattle.layer_rules.specs.Rules.{Rules}
 use Rattle.heap_core.specs.Performing.{Run}
-use Rattle.trace_text.specs.declared.LineFault.TheVariants.{NotBuiltYet}
+use Rattle.trace_text.specs.declared.LineFault.TheVariants.{TooLong}
 use Rattle.trace_text.specs.declared.TraceFault.TheVariants.{Line as LineIn, TooMuchInput}
-use Rattle.trace_text.specs.Grammar.{line_call}
+use Rattle.trace_text.specs.Grammar.{line_call, most_bytes}
 use Rattle.play_core.specs.declared.reader.Reader.{Reader}
 use Rattle.play_core.specs.Lines.{Cut, joined, lines_of}
-use Rattle.play_core.specs.Outcome.{Outcome, Stops, most_line, most_input, read_outcome}
+use Rattle.play_core.specs.Outcome.{Outcome, Stops, most_input, read_outcome}
 use Rattle.play_core.specs.Told.{Told, Piece, told_from, answers_from}
 
 -- the number of the line that comes, how many bytes stand before it, its beginning, and the run that stands
@@ -36,14 +36,14 @@ pub record Leads (root : Rules) (p : Place) (bytes : List ℕ) (pieces : List Pi
   pub answers : answers_from root p.before p.run lines ≡ Some (pieces, q.run)
   pub number : q.number ≡ p.number + length lines
   pub before : q.before ≡ p.before + length (joined lines)
-  pub short : length q.begun ≤ most_line
+  pub short : length q.begun ≤ most_bytes
 
 -- what the next byte does, where it ends the line or the trace
 unfoldable pub fed : Rules → Place → (byte : ℕ) → Option Outcome
 fed root p b =
     if nat_lt most_input (p.before + length p.begun + 1) then Some (Stops TooMuchInput) else
     (if nat_eq b 10 then Some (read_outcome root p.run (line_call p.begun)) else
-    (if nat_eq (length p.begun) most_line then Some (Stops (LineIn NotBuiltYet)) else None))
+    (if nat_eq (length p.begun) most_bytes then Some (Stops (LineIn TooLong)) else None))
 
 -- where it leads
 unfoldable pub fed_place : Place → (byte : ℕ) → (next : Run) → Place

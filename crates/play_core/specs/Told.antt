@@ -11,7 +11,7 @@ use Rattle.trace_text.specs.Text.{answer_text, fault_text}
 use Rattle.play_core.specs.declared.Status.{Status}
 use Rattle.play_core.specs.declared.Status.TheVariants.{Good, Trace}
 use Rattle.play_core.specs.Lines.{lines_of}
-use Rattle.play_core.specs.Outcome.{Outcome, Answers, Stops, outcome}
+use Rattle.play_core.specs.Outcome.{Outcome, Answers, Silent, Stops, outcome}
 use Rattle.play_core.specs.ReportText.{report_of}
 
 -- a call and its answer
@@ -59,6 +59,7 @@ stopped number fault run = record { status = Trace; pieces = line_piece run (fau
 -- what is told from a line on, by what the line does
 abbrev pub told_on : (number : ℕ) → Run → Outcome → (rest : Run → Told) → Told
 told_on number run (Answers call answer next) rest = after (answer_piece call answer next ∷ []) (rest next)
+told_on number run Silent rest = rest run
 told_on number run (Stops fault) rest = stopped number fault run
 
 -- what lines are told, of which the first has this number, and so many bytes before it
@@ -71,16 +72,17 @@ told_from root number before run (line ∷ lines) =
 abbrev pub told : Rules → Run → (input : List ℕ) → Told
 told root run input = told_from root 1 0 run (lines_of input)
 
--- the answers from a line on, by what the line does
-abbrev pub answers_on : Outcome → (rest : Run → Option (List Piece × Run)) → Option (List Piece × Run)
-answers_on (Answers call answer next) rest = option_map (λ r. (answer_piece call answer next ∷ r.0, r.1)) (rest next)
-answers_on (Stops fault) rest = None
+-- the answers from a line on, by what the line does in a run
+abbrev pub answers_on : Run → Outcome → (rest : Run → Option (List Piece × Run)) → Option (List Piece × Run)
+answers_on run (Answers call answer next) rest = option_map (λ r. (answer_piece call answer next ∷ r.0, r.1)) (rest next)
+answers_on run Silent rest = rest run
+answers_on run (Stops fault) rest = None
 
 -- the answers to lines and the run after them, where none is in fault
 abbrev pub answers_from : Rules → (before : ℕ) → Run → (lines : List (List ℕ)) → Option (List Piece × Run)
 answers_from root before run [] = Some ([], run)
 answers_from root before run (line ∷ lines) =
-    answers_on (outcome root before run line) (λ next. answers_from root (before + length line) next lines)
+    answers_on run (outcome root before run line) (λ next. answers_from root (before + length line) next lines)
 
 -- The text breaks off within a piece, and this run stands when that piece is put.
 pub record BreaksOff (t : Told) (text : List ℕ) (run : Run) : Type 0 where

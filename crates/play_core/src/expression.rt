@@ -1,14 +1,14 @@
 // What is told of an expression: its fault, or what stands in it.
 ghost use Rattle.std.specs.Prelude.{◌≡◌, ◌≤◌, ◌++◌, List, ℕ, codes, length, string_bytes, IfOk, OnOk};
 ghost use Rattle.space_core.specs.Memory.{no_memory};
-ghost use Rattle.expr_reader.specs.Answers.{IsAccepted};
+ghost use Rattle.expr_reader.specs.Buildable.{IsBuildable};
 ghost use Rattle.expr_reader.specs.Canonical.{canonical};
 ghost use Rattle.expr_reader.specs.Trees.{tree_of};
 ghost use Rattle.play_core.specs.CheckText.{check_text, offered, offers_text, rules_text};
 ghost use Rattle.play_core.specs.Runs.{HasAllFree};
 ghost use Rattle.play_core.specs.Telling.{cause_line, expression_text};
 
-use expr_reader::{Expr, ExprFault, accepted_are_compositions, build, print};
+use expr_reader::{Expr, ExprFault, build, buildable_are_compositions, print};
 use layer_core::{Layer, Offers};
 use space_core::{NoMemory, Space};
 use std::alloc::{AllocError, Global};
@@ -94,11 +94,11 @@ fn text_of<L: Layer>(alloc: Global, expr: &Expr, root: L) -> Result<String, NoMe
 // What stands in an expression.
 pub(crate) fn check_text(alloc: Global, expr: &Expr, space: &mut Space) -> Result<String, NoMemory>
     requires closed { space.old ≡ no_memory 0 }
-    requires accepted { (text : List ℕ) × IsAccepted text (tree_of expr.now) }
+    requires buildable { IsBuildable (tree_of expr.now) }
     ensures text { IfOk result (λ text. string_bytes text ≡ check_text (tree_of expr.now)) }
     ensures free { HasAllFree space.new }
 {
-    accepted_are_compositions();
+    buildable_are_compositions();
     let root = build(alloc, expr, space)?;
     text_of(alloc, expr, root)
 }

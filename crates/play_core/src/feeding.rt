@@ -1,5 +1,6 @@
 // One line, and one byte.
-ghost use Rattle.std.specs.Prelude.{◌≡◌, Ok};
+ghost use Rattle.std.specs.Prelude.{◌≡◌, Ok, Some};
+ghost use Rattle.heap_core.specs.Performing.{IsCall};
 ghost use Rattle.trace_text.specs.Grammar.{line_call};
 ghost use Rattle.play_core.specs.Devices.{writing};
 ghost use Rattle.play_core.specs.Ends.{run_at, rules_at, HeldAt, ByteStepped, Stepped};
@@ -23,8 +24,9 @@ fn perform_call<L: Layer, K: Sink>(
     number: u64,
     call: &Call,
 ) -> Step
-    requires { HeldAt L.model heap.old space.old }
-    ensures stepped { Stepped (read_outcome (rules_at L.model heap.old) (run_at L.model heap.old space.old) (Ok call.now)) number
+    requires held { HeldAt L.model heap.old space.old }
+    requires call { IsCall call.now }
+    ensures stepped { Stepped (read_outcome (rules_at L.model heap.old) (run_at L.model heap.old space.old) (Ok (Some call.now))) number
         (run_at L.model heap.old space.old) (run_at L.model heap.new space.new)
         (writing K.holds K.faults sink.old) (writing K.holds K.faults sink.new) result }
     ensures held { HeldAt L.model heap.new space.new }
@@ -57,7 +59,8 @@ pub(crate) fn perform_line<L: Layer, K: Sink>(
     ensures rules { rules_at L.model heap.new ≡ rules_at L.model heap.old }
 {
     match read_line(line) {
-        Ok(call) => perform_call(heap, space, sink, number, &call),
+        Ok(Some(call)) => perform_call(heap, space, sink, number, &call),
+        Ok(None) => Step::Goes,
         Err(fault) => put_fault(sink, number, &TraceFault::Line { fault }, space),
     }
 }
@@ -93,7 +96,7 @@ pub(crate) fn feed<L: Layer, K: Sink>(
         return step;
     }
     if reader.begun.is_full() {
-        let fault = LineFault::NotBuiltYet;
+        let fault = LineFault::TooLong;
         return put_fault(sink, reader.number, &TraceFault::Line { fault }, space);
     }
     reader.begun.push(byte);

@@ -6,6 +6,7 @@ ghost use Rattle.play_core.specs.WorkedRows.{CellsAlone, CheckAlignment, CheckCe
 use expr_reader::{accepted_are_compositions, each_text_is_read_once};
 use heap_core::laws::calls_are_moves;
 use heap_core::runs::{answers_are_exact, live_blocks_are_apart, runs_go_on};
+use trace_text::read_is_sayable;
 
 /// All words ask for one thing, and for no other: the usage, the fault of an expression, what stands in it, or a run
 /// of a trace.
@@ -16,8 +17,9 @@ pub fn all_words_ask_once()
 }
 
 /// In every run that words and an input are told, each answer is a step of the machine of blocks, null comes exactly
-/// where 0 bytes are asked or the root refuses, and nothing else changes a name, a block or a byte. At every piece of
-/// the text the live blocks lie in the area, at multiples of the alignment, share no byte, and have zeros.
+/// where 0 bytes are asked or the root refuses, a call that is refused changes nothing but statistics, and nothing else
+/// changes a name, a block or a byte. At every piece of the text the live blocks lie in the area, at multiples of the
+/// alignment, and share no byte.
 pub fn whole_runs()
     ensures { WholeRuns }
 {
@@ -26,6 +28,7 @@ pub fn whole_runs()
     runs_go_on();
     live_blocks_are_apart();
     answers_are_exact();
+    read_is_sayable();
 }
 
 /// What some words and inputs are told, each row by computation.

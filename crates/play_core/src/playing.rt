@@ -2,7 +2,7 @@
 ghost use Rattle.std.specs.Prelude.{◌≡◌, ◌≤◌, List, ℕ, false};
 ghost use Rattle.space_core.specs.Memory.{most_cells, no_memory};
 ghost use Rattle.layer_rules.specs.Layering.{Stands, IsShut};
-ghost use Rattle.expr_reader.specs.Answers.{IsAccepted};
+ghost use Rattle.expr_reader.specs.Buildable.{IsBuildable};
 ghost use Rattle.expr_reader.specs.Trees.{tree_of};
 ghost use Rattle.play_core.specs.Asked.{Replays};
 ghost use Rattle.play_core.specs.Devices.{reading, writing};
@@ -12,7 +12,7 @@ ghost use Rattle.play_core.specs.Telling.{refused_text};
 use crate::Status;
 use crate::putting::put_only;
 use crate::replaying::replay;
-use expr_reader::{Expr, accepted_are_compositions, build};
+use expr_reader::{Expr, build, buildable_are_compositions};
 use heap_core::{Heap, MakeFault};
 use layer_core::Layer;
 use source_sink::{Sink, Source};
@@ -76,7 +76,7 @@ pub(crate) fn play<S: Source, K: Sink>(
 ) -> Status
     requires opened { S.finished source.old ≡ false }
     requires closed { space.old ≡ no_memory 0 }
-    requires accepted { (text : List ℕ) × IsAccepted text (tree_of expr.now) }
+    requires buildable { IsBuildable (tree_of expr.now) }
     requires some_cells { 1 ≤ cells }
     requires most_cells { cells ≤ most_cells }
     ensures early { IsEarly result → source.new ≡ source.old }
@@ -85,7 +85,7 @@ pub(crate) fn play<S: Source, K: Sink>(
         (reading S.left S.faults S.finished source.old) (reading S.left S.faults S.finished source.new)
         (writing K.holds K.faults sink.old) (writing K.holds K.faults sink.new) space.new result }
 {
-    accepted_are_compositions();
+    buildable_are_compositions();
     let Ok(()) = space.set_up(alloc, cells) else {
         return Status::NoMemory;
     };

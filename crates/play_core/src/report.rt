@@ -1,15 +1,18 @@
 // The report at the end of a trace: the totals, and then what each node says.
 ghost use Rattle.std.specs.Prelude.{◌≡◌, ◌≤◌, [], length};
 ghost use Rattle.std.specs.Option.{option_map};
+ghost use Rattle.arrayvec.specs.ArrayString.{array_string_len};
+ghost use Rattle.layer_rules.specs.Fields.{stats_numbers};
 ghost use Rattle.layer_rules.specs.Layering.{Stands, state_of};
 ghost use Rattle.play_core.specs.Devices.{writing};
 ghost use Rattle.play_core.specs.Ends.{run_at, rules_at, HeldAt, LinesPut};
-ghost use Rattle.play_core.specs.ReportText.{and_lines, cells_line, fact_line, node_lines, region_line, report_of, total_line, total_lines};
+ghost use Rattle.play_core.specs.ReportText.{and_lines, count_line, fact_line, node_lines, node_words, report_of, room_line, stats_line, total_line, total_lines};
 
 use crate::putting::{put_all, put_lines};
 use heap_core::Heap;
 use heap_core::laws::blocks_are_measured;
 use layer_core::{Fact, Layer};
+use layer_rules::Stats;
 use source_sink::{Failed, Sink};
 use space_core::Space;
 use trace_text::{Line, push_number};
@@ -27,30 +30,81 @@ fn total_line(word: &str, number: u64) -> Line
     line
 }
 
-// An open region.
-fn region_line(node: u32, room: u64) -> Line
-    ensures { result.bytes ≡ region_line node room }
+// The beginning of a node's line: its number, and what it is.
+fn node_words(node: u32, words: &str) -> Line
+    requires { length words.now ≤ 20 }
+    ensures bytes { result.bytes ≡ node_words node words.now }
+    ensures len { array_string_len result ≤ 46 }
 {
     let mut line = Line::new();
     line.push_str("node ");
     push_number(&mut line, u64::from(node));
-    line.push_str(" region room ");
+    line.push_str(" ");
+    line.push_str(words);
+    line
+}
+
+// A layer with a chunk.
+fn room_line(node: u32, word: &str, room: u64, longest: u64) -> Line
+    requires { length word.now ≤ 20 }
+    ensures { result.bytes ≡ room_line node word.now room longest }
+{
+    let mut line = node_words(node, word);
+    line.push_str(" room ");
     push_number(&mut line, room);
     line.push_str(" longest ");
-    push_number(&mut line, room);
+    push_number(&mut line, longest);
     line.push_str("\n");
     line
 }
 
-// A leaf with cells.
-fn cells_line(node: u32, count: u32) -> Line
-    ensures { result.bytes ≡ cells_line node count }
+// How many there are, where there are any.
+fn count_line(node: u32, words: &str, count: u64) -> Option<Line>
+    requires { length words.now ≤ 20 }
+    ensures { option_map (λ line. line.bytes) result ≡ count_line node words.now count }
 {
-    let mut line = Line::new();
-    line.push_str("node ");
-    push_number(&mut line, u64::from(node));
-    line.push_str(" mem cells ");
-    push_number(&mut line, u64::from(count));
+    if count == 0 {
+        return None;
+    }
+    let mut line = node_words(node, words);
+    line.push_str(" ");
+    push_number(&mut line, count);
+    line.push_str("\n");
+    Some(line)
+}
+
+// The counters of a statistics layer, in the order of their declaration.
+fn numbers_of(stats: Stats) -> [u64; 15]
+    ensures { result ≡ stats_numbers stats }
+{
+    [
+        stats.num_owns,
+        stats.num_allocate,
+        stats.num_allocate_ok,
+        stats.num_expand,
+        stats.num_expand_ok,
+        stats.num_reallocate,
+        stats.num_reallocate_ok,
+        stats.num_reallocate_in_place,
+        stats.num_deallocate,
+        stats.num_deallocate_all,
+        stats.bytes_used,
+        stats.bytes_allocated,
+        stats.bytes_moved,
+        stats.bytes_slack,
+        stats.bytes_high_tide,
+    ]
+}
+
+// A statistics layer.
+fn stats_line(node: u32, stats: Stats) -> Line
+    ensures { result.bytes ≡ stats_line node stats }
+{
+    let mut line = node_words(node, "stats");
+    for number in numbers_of(stats) {
+        line.push_str(" ");
+        push_number(&mut line, number);
+    }
     line.push_str("\n");
     line
 }
@@ -60,15 +114,14 @@ fn fact_line(node: u32, fact: Fact) -> Option<Line>
     ensures { option_map (λ line. line.bytes) result ≡ fact_line node fact }
 {
     match fact {
-        Fact::Region { room } => Some(region_line(node, room)),
-        Fact::Cells { count } => {
-            if count == 0 {
-                None
-            } else {
-                Some(cells_line(node, count))
-            }
-        }
-        _ => None,
+        Fact::Cells { count } => count_line(node, "mem cells", u64::from(count)),
+        Fact::Region { room } => Some(room_line(node, "region", room, room)),
+        Fact::Bitmap { room, longest } => Some(room_line(node, "bitmap", room, longest)),
+        Fact::Kr { room, longest } => Some(room_line(node, "kr", room, longest)),
+        Fact::Cached { count } => count_line(node, "freelist cached", count),
+        Fact::Members { count } => count_line(node, "list open", u64::from(count)),
+        Fact::Counters { stats } => Some(stats_line(node, stats)),
+        Fact::Plain | Fact::Closed | Fact::Numbers { .. } => None,
     }
 }
 

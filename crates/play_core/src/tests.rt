@@ -1,6 +1,8 @@
 // What no clause says: that runs come to their end with ample memory.
+ghost use Rattle.std.specs.Prelude.{◌≡◌, Some, false};
+
 use crate::{Status, run};
-use source_sink::{StillSink, StillSource};
+use source_sink::{Failed, MemorySink, MemorySource, Sink, Source, StillSink, StillSource};
 use space_core::Space;
 use std::alloc::{AllocError, Global};
 use std::process::Abort;
@@ -15,13 +17,63 @@ struct Row {
     told: &'static str,
 }
 
-const TRACES: [Row; 10] = [
+const TRACES: [Row; 32] = [
+    // the examples
     Row {
         words: &["replay", "region(1024,16,mem)", "64"],
         trace: "a 1 100\na 2 1\nf 1\nf 2\na 3 16\n",
         status: Status::Good,
         told: "a 1 0\na 2 112\nf 1 false\nf 2 true\na 3 112\nlive 1\nasked 16\nextent 16\nslack 0\nnode 0 region room 896 longest 896\nnode 1 mem cells 16\n",
     },
+    Row {
+        words: &["replay", "region(1024,16,mem)", "64"],
+        trace: "a 1 600\na 2 600\na 3 400\nf 3\na 4 416\n",
+        status: Status::Good,
+        told: "a 1 0\na 2 null\na 3 608\nf 3 true\na 4 608\nlive 2\nasked 1016\nextent 1024\nslack 8\nnode 0 region room 0 longest 0\nnode 1 mem cells 16\n",
+    },
+    Row {
+        words: &["replay", "region(1024,16,mem)", "64"],
+        trace: "a 1 32\nf 1\nf 1\na 2 8\n",
+        status: Status::Trace,
+        told: "a 1 0\nf 1 true\nline 3: name is not live\n",
+    },
+    Row {
+        words: &["replay", "mem", "8"],
+        trace: "a 1 100\na 2 64\na 3 128\nf 1\nf 3\na 4 64\na 5 192\nf 2\na 6 64\n",
+        status: Status::Good,
+        told: "a 1 0\na 2 128\na 3 192\nf 1 true\nf 3 true\na 4 0\na 5 192\nf 2 true\na 6 64\nlive 3\nasked 320\nextent 320\nslack 0\nnode 0 mem cells 5\n",
+    },
+    Row {
+        words: &["replay", "region(65536,64,mem)", "1024"],
+        trace: "a 1 8\na 2 24\na 3 65\na 4 1\nf 4\n",
+        status: Status::Good,
+        told: "a 1 0\na 2 64\na 3 128\na 4 256\nf 4 true\nlive 3\nasked 97\nextent 256\nslack 159\nnode 0 region room 65280 longest 65280\nnode 1 mem cells 1024\n",
+    },
+    Row {
+        words: &["replay", "region(1048576,1,mem)", "16384"],
+        trace: "a 1 5\na 2 11\na 3 1\na 4 0\na 5 300\n",
+        status: Status::Good,
+        told: "a 1 0\na 2 5\na 3 16\na 4 null\na 5 17\nlive 4\nasked 317\nextent 317\nslack 0\nnode 0 region room 1048259 longest 1048259\nnode 1 mem cells 16384\n",
+    },
+    Row {
+        words: &["replay", "region(256,8,region(4096,64,mem))", "64"],
+        trace: "a 1 12\na 2 200\na 3 40\na 4 1\nf 3\nf 2\nf 1\n",
+        status: Status::Good,
+        told: "a 1 0\na 2 16\na 3 216\na 4 null\nf 3 true\nf 2 true\nf 1 true\nlive 0\nasked 0\nextent 0\nslack 0\nnode 0 region room 256 longest 256\nnode 1 region room 3840 longest 3840\nnode 2 mem cells 64\n",
+    },
+    Row {
+        words: &["replay", "null", "1"],
+        trace: "a 1 1\na 2 4096\n",
+        status: Status::Good,
+        told: "a 1 null\na 2 null\nlive 0\nasked 0\nextent 0\nslack 0\n",
+    },
+    Row {
+        words: &["replay", "region(1024,16,mem)", "64"],
+        trace: "# a text that is written, grows where it stands, and moves when it can't\na 1 8\nw 1 0 68656c6c6f\ne 1 8\na 2 16\nr 1 32\nd 1 0 6\no 1\nl 3 16 128\ng 100\nz\n",
+        status: Status::Good,
+        told: "a 1 0\nw 1 ok\ne 1 true\na 2 16\nr 1 true 32\nd 1 68656c6c6f00\no 1 true\nl 3 128\ng 100 112\nz done\nlive 0\nasked 0\nextent 0\nslack 0\nnode 0 region room 1024 longest 1024\nnode 1 mem cells 16\n",
+    },
+    // no line, and words with blanks and zeros
     Row {
         words: &["replay", "region(1024,16,mem)", "64"],
         trace: "",
@@ -41,22 +93,10 @@ const TRACES: [Row; 10] = [
         told: "a 1 0\na 2 null\nlive 1\nasked 1024\nextent 1024\nslack 0\nnode 0 region room 0 longest 0\nnode 1 mem cells 16\n",
     },
     Row {
-        words: &["replay", "region(1024,16,mem)", "64"],
-        trace: "a 1 8\ne 1 8\n",
-        status: Status::Trace,
-        told: "a 1 0\nline 2: not built yet\n",
-    },
-    Row {
         words: &["replay", "mem", "4"],
         trace: "a 1 100\na 2 64\nf 1\na 3 1\na 4 129\n",
         status: Status::Good,
         told: "a 1 0\na 2 128\nf 1 true\na 3 0\na 4 null\nlive 2\nasked 65\nextent 128\nslack 63\nnode 0 mem cells 2\n",
-    },
-    Row {
-        words: &["replay", "null", "4"],
-        trace: "a 1 5\n",
-        status: Status::Good,
-        told: "a 1 null\nlive 0\nasked 0\nextent 0\nslack 0\n",
     },
     Row {
         words: &[
@@ -68,6 +108,7 @@ const TRACES: [Row; 10] = [
         status: Status::Good,
         told: "a 1 0\na 2 null\nlive 1\nasked 8\nextent 8\nslack 0\nnode 0 region room 0 longest 0\nnode 1 region room 8 longest 8\nnode 2 region room 8 longest 8\nnode 3 region room 8 longest 8\nnode 4 region room 8 longest 8\nnode 5 region room 8 longest 8\nnode 6 region room 8 longest 8\nnode 7 region room 8 longest 8\nnode 8 mem cells 1\n",
     },
+    // a root that is not opened
     Row {
         words: &["replay", "region(8192,16,mem)", "64"],
         trace: "",
@@ -79,6 +120,106 @@ const TRACES: [Row; 10] = [
         trace: "a 1 8\n",
         status: Status::OpeningRefused,
         told: "opening refused at node 0\n",
+    },
+    // lengths change
+    Row {
+        words: &["replay", "region(1024,16,mem)", "64"],
+        trace: "a 1 1000\ne 1 24\ne 1 1\n",
+        status: Status::Good,
+        told: "a 1 0\ne 1 true\ne 1 false\nlive 1\nasked 1024\nextent 1024\nslack 0\nnode 0 region room 0 longest 0\nnode 1 mem cells 16\n",
+    },
+    Row {
+        words: &["replay", "region(1024,16,mem)", "64"],
+        trace: "a 1 16\nw 1 0 0102\na 2 16\nr 1 32\nd 1 0 3\nr 1 0\nf 2\n",
+        status: Status::Good,
+        told: "a 1 0\nw 1 ok\na 2 16\nr 1 true 32\nd 1 010200\nr 1 gone\nf 2 true\nlive 0\nasked 0\nextent 0\nslack 0\nnode 0 region room 1008 longest 1008\nnode 1 mem cells 16\n",
+    },
+    Row {
+        words: &["replay", "mem", "4"],
+        trace: "l 1 1 128\nl 2 200 64\nl 3 1 4096\nr 1 65\ng 65\nr 1 200\nz\nr 1 1\n",
+        status: Status::Trace,
+        told: "l 1 0\nl 2 null\nl 3 null\nr 1 true 0\ng 65 128\nr 1 true 0\nz done\nline 8: name is not live\n",
+    },
+    // who owns a block
+    Row {
+        words: &["replay", "region(1024,16,mem)", "64"],
+        trace: "a 1 16\no 1\np 1 0\n",
+        status: Status::Trace,
+        told: "a 1 0\no 1 true\nline 3: not serving\n",
+    },
+    Row {
+        words: &["replay", "mem", "64"],
+        trace: "a 1 10\no 1\n",
+        status: Status::Trace,
+        told: "a 1 0\nline 2: not offered\n",
+    },
+    Row {
+        words: &["replay", "mem", "64"],
+        trace: "a 1 10\np 1 0\n",
+        status: Status::Trace,
+        told: "a 1 0\nline 2: no such layer\n",
+    },
+    // lines in fault
+    Row {
+        words: &["replay", "region(1024,16,mem)", "64"],
+        trace: "a 1 8\n\nf 9\n",
+        status: Status::Trace,
+        told: "a 1 0\nline 3: name is not live\n",
+    },
+    Row {
+        words: &["replay", "region(1024,16,mem)", "64"],
+        trace: "a 1 8\n# a 2 8\na 1 8\n",
+        status: Status::Trace,
+        told: "a 1 0\nline 3: name is live\n",
+    },
+    Row {
+        words: &["replay", "region(1024,16,mem)", "64"],
+        trace: "a 1 18446744073709551616\n",
+        status: Status::Trace,
+        told: "line 1: number too large at column 5\n",
+    },
+    Row {
+        words: &["replay", "region(1024,16,mem)", "64"],
+        trace: "a 1 18446744073709551615\n",
+        status: Status::Good,
+        told: "a 1 null\nlive 0\nasked 0\nextent 0\nslack 0\nnode 0 region room 1024 longest 1024\nnode 1 mem cells 16\n",
+    },
+    Row {
+        words: &["replay", "region(1024,16,mem)", "64"],
+        trace: "l 1 8 3\n",
+        status: Status::Trace,
+        told: "line 1: bad line at column 7\n",
+    },
+    Row {
+        words: &["replay", "region(1024,16,mem)", "64"],
+        trace: "e 1\n",
+        status: Status::Trace,
+        told: "line 1: bad line at column 4\n",
+    },
+    Row {
+        words: &["replay", "region(1024,16,mem)", "64"],
+        trace: "a 1 0000000000000000000000000000000000000000000000000000000000000000000000000000000000000000000000000000000000000000000000000000000000000000000000000000000000000000000000000000000000000000000000000000000000000000000000000000000000000000000000000000000000008",
+        status: Status::Trace,
+        told: "line 1: too long\n",
+    },
+    Row {
+        words: &["replay", "region(1024,16,mem)", "64"],
+        trace: "a 1 8\nd 1 4 5\n",
+        status: Status::Trace,
+        told: "a 1 0\nline 2: outside the block\n",
+    },
+    Row {
+        words: &["replay", "region(1024,16,mem)", "64"],
+        trace: "a 1 8",
+        status: Status::Good,
+        told: "a 1 0\nlive 1\nasked 8\nextent 16\nslack 8\nnode 0 region room 1008 longest 1008\nnode 1 mem cells 16\n",
+    },
+    // the greatest area
+    Row {
+        words: &["replay", "mem", "262144"],
+        trace: "a 1 16777216\na 2 1\n",
+        status: Status::Good,
+        told: "a 1 0\na 2 null\nlive 1\nasked 16777216\nextent 16777216\nslack 0\nnode 0 mem cells 262144\n",
     },
 ];
 
@@ -144,12 +285,72 @@ const CODES: [(Status, u8); 8] = [
     (Status::NoMemory, 8),
 ];
 
+// A source that keeps how many calls asked for 4,096 bytes, and how many bytes the last call asked for.
+#[derive(Drop)]
+struct AskedSource {
+    source: MemorySource,
+    full: u32,
+    last: usize,
+}
+
+impl Source for AskedSource {
+    ghost left = { λ s. Some s.source.left };
+
+    ghost faults = { λ s. s.source.faults };
+
+    ghost finished = { λ s. s.source.finished };
+
+    fn take(&mut self, into: &mut [u8]) -> Result<usize, Failed> {
+        self.last = into.len();
+        if self.last == 4096 {
+            self.full = self.full.saturating_add(1);
+        }
+        self.source.take(into)
+    }
+}
+
+// A sink that keeps how many pieces were put, and how many of them are one line.
+#[derive(Drop)]
+struct PieceSink {
+    sink: MemorySink,
+    pieces: u32,
+    lines: u32,
+}
+
+impl Sink for PieceSink {
+    ghost holds = { λ s. Some s.sink.bytes };
+
+    ghost faults = { λ s. s.sink.faults };
+
+    fn put(&mut self, piece: &[u8], space: &Space) -> Result<usize, Failed> {
+        self.pieces = self.pieces.saturating_add(1);
+        if piece.iter().position(|byte| *byte == b'\n') == Some(piece.len() - 1) {
+            self.lines = self.lines.saturating_add(1);
+        }
+        self.sink.put(piece, space)
+    }
+}
+
 fn strings(alloc: Global, words: &[&str]) -> Result<Vec<String>, AllocError> {
     let mut strings = Vec::new(alloc);
     for word in words {
         strings.push(String::from_str(alloc, *word)?)?;
     }
     Ok(strings)
+}
+
+// How the words end on these devices, over a Space of their own.
+fn ended<S: Source, K: Sink>(
+    alloc: Global,
+    words: &[&str],
+    source: &mut S,
+    sink: &mut K,
+) -> Result<Status, Fail>
+    requires { S.finished source.old ≡ false }
+{
+    let words = strings(alloc, words)?;
+    let mut space = Space::closed();
+    Ok(run(alloc, &words, source, sink, &mut space))
 }
 
 // Runs the words over a trace, and wants this status and text.
@@ -161,14 +362,11 @@ fn tells(
     told: &str,
 ) -> Result<(), Fail> {
     let alloc = rt.alloc();
-    let words = strings(alloc, words)?;
     let mut source = StillSource::new(Vec::from_slice(alloc, trace.as_bytes())?);
     let Ok(mut sink) = StillSink::new(alloc, 4096) else {
         panic!(rt; "no memory");
     };
-    let mut space = Space::closed();
-    let ended = run(alloc, &words, &mut source, &mut sink, &mut space);
-    assert_eq!(rt; ended, status);
+    assert_eq!(rt; ended(alloc, words, &mut source, &mut sink)?, status);
     assert_eq!(rt; sink.bytes(), told.as_bytes());
     Ok(())
 }
@@ -191,6 +389,98 @@ fn texts_are_told(rt: HostRuntime) -> Result<(), Fail> {
     for words in NO_COMMANDS {
         tells(&rt, words, "", Status::Usage, USAGE)?;
     }
+    Ok(())
+}
+
+// The first row of the table comes in pieces of ten bytes: each answer and each line of the report is one piece.
+#[test]
+fn lines_are_pieces(rt: HostRuntime) -> Result<(), Fail> {
+    let alloc = rt.alloc();
+    let trace = Vec::from_slice(alloc, TRACES[0].trace.as_bytes())?;
+    let mut source = AskedSource {
+        source: MemorySource::new(trace, 10, Vec::new(alloc)),
+        full: 0,
+        last: 0,
+    };
+    let Ok(sink) = MemorySink::new(alloc, 4096, Vec::new(alloc)) else {
+        panic!(rt; "no memory");
+    };
+    let mut sink = PieceSink {
+        sink,
+        pieces: 0,
+        lines: 0,
+    };
+    let status = ended(alloc, TRACES[0].words, &mut source, &mut sink)?;
+    assert_eq!(rt; status, Status::Good);
+    assert_eq!(rt; sink.sink.bytes(), TRACES[0].told.as_bytes());
+    assert_eq!(rt; (sink.pieces, sink.lines), (11, 11));
+    assert_eq!(rt; (source.full, source.last), (4, 4096));
+    Ok(())
+}
+
+// Each device fails in its second call: what was answered before that stands.
+#[test]
+fn devices_fail(rt: HostRuntime) -> Result<(), Fail> {
+    for (most, source_fails, sink_fails, status) in [
+        (4096, 9, 1, Status::WriteFault),
+        (10, 1, 9, Status::ReadFault),
+    ] {
+        let alloc = rt.alloc();
+        let words = ["replay", "region(1024,16,mem)", "64"];
+        let trace = Vec::from_slice(alloc, b"a 1 10\na 2 10\n")?;
+        let failing = Vec::from_slice(alloc, &[source_fails])?;
+        let mut source = MemorySource::new(trace, most, failing);
+        let failing = Vec::from_slice(alloc, &[sink_fails])?;
+        let Ok(mut sink) = MemorySink::new(alloc, 4096, failing) else {
+            panic!(rt; "no memory");
+        };
+        assert_eq!(rt; ended(alloc, &words, &mut source, &mut sink)?, status);
+        assert_eq!(rt; sink.bytes(), "a 1 0\n".as_bytes());
+    }
+    Ok(())
+}
+
+// Of 65,537 names the last is one too many.
+#[test]
+fn names_run_out(rt: HostRuntime) -> Result<(), Fail> {
+    let alloc = rt.alloc();
+    let mut trace = String::new(alloc);
+    let mut told = String::new(alloc);
+    for k in 0..65_536u32 {
+        trace.push_str(format!(in alloc; "a {} 16\n", k + 1)?.as_str())?;
+        told.push_str(format!(in alloc; "a {} {}\n", k + 1, 16 * u64::from(k))?.as_str())?;
+    }
+    trace.push_str("a 65537 16\n")?;
+    told.push_str("line 65537: too many live blocks\n")?;
+    let words = ["replay", "region(1048576,16,mem)", "16384"];
+    let mut source = StillSource::new(Vec::from_slice(alloc, trace.as_bytes())?);
+    let Ok(mut sink) = StillSink::new(alloc, 2_000_000) else {
+        panic!(rt; "no memory");
+    };
+    let status = ended(alloc, &words, &mut source, &mut sink)?;
+    assert_eq!(rt; status, Status::Trace);
+    assert!(rt; sink.bytes() == told.as_bytes());
+    Ok(())
+}
+
+// Of 16,777,217 newlines the last is one too many. It is asked for alone, and no more is asked for.
+#[test]
+fn input_is_bounded(rt: HostRuntime) -> Result<(), Fail> {
+    let alloc = rt.alloc();
+    let words = ["replay", "mem", "1"];
+    let trace = vec![in alloc; b'\n'; 16_777_300]?;
+    let mut source = AskedSource {
+        source: MemorySource::new(trace, 4096, Vec::new(alloc)),
+        full: 0,
+        last: 0,
+    };
+    let Ok(mut sink) = StillSink::new(alloc, 4096) else {
+        panic!(rt; "no memory");
+    };
+    let status = ended(alloc, &words, &mut source, &mut sink)?;
+    assert_eq!(rt; status, Status::Trace);
+    assert_eq!(rt; sink.bytes(), "line 16777217: too much input\n".as_bytes());
+    assert_eq!(rt; (source.full, source.last), (4096, 1));
     Ok(())
 }
 

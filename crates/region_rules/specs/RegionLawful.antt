@@ -20,7 +20,7 @@ use Rattle.layer_rules.specs.Owning.{is_plausible}
 use Rattle.layer_rules.specs.Rules.{Rules, IsSettled, AreApart, HasSomeTags}
 use Rattle.layer_rules.specs.Setting.{need_of, chunk_given}
 use Rattle.layer_rules.specs.Testing.{is_over}
-use Rattle.region_rules.specs.RegionRules.{region_chunk, region_opened, region_allocate, region_next, region_expand, is_region_own, is_region, region_settled, region_rules}
+use Rattle.region_rules.specs.RegionRules.{region_chunk, region_opened, region_allocate, region_next, is_last, region_expand, region_deallocate, is_region_own, is_region, region_settled, region_rules}
 use Rattle.region_rules.specs.RegionMeanings.{IsRegionSize, IsRegion, RegionParts, IsOutRegion, OutOfRegion, OpenRegionIsSound, RegionIsLawful}
 use Rattle.layer_laws.specs.Basics.{and-fst, and-snd}
 use Rattle.layer_laws.specs.BlockLaws.{inside-of}
@@ -442,6 +442,17 @@ region-framed size align e w law (open_fields kept fss) old new cells b h i o k 
       marked = λ c o z w. w;
     }
 
+-- the position moves to p, or all stays
+abbrev pub Moved : (p : ℕ) → State → Cells → Bool → After Bool
+Moved p s cells done = elim done [ true ↦ after true (with_own s (region_own (chunk_of s) p)) cells | false ↦ after false s cells ]
+
+case-count : (p : ℕ) (s : State) (cells : Cells) (q : Bool) → length (Moved p s cells q).cells.tags ≡ length cells.tags
+case-count p s cells true = refl
+case-count p s cells false = refl
+
+pub count-deallocated : (align : ℕ) (b : Block) (s : State) (cells : Cells) → length (region_deallocate align b s cells).cells.tags ≡ length cells.tags
+count-deallocated align b s cells = case-count b.place s cells (is_last align b s)
+
 -- ---- the families
 
 pub region-keeping : (size align : ℕ) (e : Rules) → IsRegionSize size align e → IsRegular e → PlacingLaws e → KeepingLaws (region_rules size align e)
@@ -458,7 +469,7 @@ region-keeping size align e w r p =
       freed = region-freed size align e x;
       grown = region-grown size align e x;
       emptied = region-emptied size align e x;
-      reallocated = generally-reallocated f all_offers (record { some = some; takes = takes; good = region-good size align e x; freed = region-freed size align e x; grown = region-grown size align e x });
+      reallocated = generally-reallocated f all_offers (record { some = some; takes = takes; gives = count-deallocated align; good = region-good size align e x; freed = region-freed size align e x; grown = region-grown size align e x });
       aligned = region-aligned_good size align e w r p.aligned;
       owned = λ b s cells h. same-told (region_rules size align e) s cells h;
     }

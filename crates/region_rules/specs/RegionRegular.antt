@@ -1,11 +1,11 @@
 -- A region is regular over a regular parent.
-use Rattle.std.proofs.Common.{◌≡◌, refl, sym, ap, subst, ℕ, suc, ◌+◌, Bool, true, false, not, max, arith, List, [], ◌∷◌, length, nat_eq, nat_le, nat_lt}
+use Rattle.std.proofs.Common.{◌≡◌, refl, sym, ap, subst, ℕ, suc, ◌+◌, Bool, true, false, not, max, arith, List, [], ◌∷◌, nat_eq, nat_le, nat_lt}
 use Rattle.size_round.specs.Sizes.{limit, up}
 use Rattle.size_round.specs.UpLeast.{enough_times}
 use Rattle.size_round.specs.PowerLaws.{power_is_some}
 use Rattle.space_core.specs.Cells.{Cells}
 use Rattle.layer_rules.specs.declared.Block.{Block}
-use Rattle.layer_rules.specs.After.{After, after, Opened}
+use Rattle.layer_rules.specs.After.{Opened}
 use Rattle.layer_rules.specs.Allocating.{asked_for, served_unless}
 use Rattle.layer_rules.specs.Blocks.{end_of, lies_in}
 use Rattle.layer_rules.specs.Expanding.{asked_to_expand}
@@ -17,7 +17,7 @@ use Rattle.layer_rules.specs.State.{State, closed, open_with, Own, region_own, i
 use Rattle.layer_rules.specs.Unread.{unread}
 use Rattle.region_rules.specs.RegionRules.{region_chunk, region_opened, region_allocate, region_next, region_aligned, is_last, region_expand, region_deallocate, region_is_full, region_holds, region_owns_at, region_rules}
 use Rattle.region_rules.specs.RegionMeanings.{IsRegionSize, RegionIsRegular}
-use Rattle.region_rules.specs.RegionLawful.{Served, allocate-takes, region-opened}
+use Rattle.region_rules.specs.RegionLawful.{Served, Moved, allocate-takes, count-deallocated, region-opened}
 use Rattle.layer_laws.specs.GoodSizes.{served-enough, unserved-zero, unserved-above, power-alignment}
 use Rattle.layer_laws.specs.Lawful.{TellingLaws, ReadingLaws, RefusingLaws, TailLaws, OpennessLaws, OwningLaws, TakingLaws, KeptOnNone, KeepsOnNone, KeptOnFalse, KeepsOnFalse, RefusedLaws, UnrangedLaws, yes_if}
 use Rattle.layer_laws.specs.Owners.{held-same, open-may_hold}
@@ -68,9 +68,6 @@ region-reading size align e p = record {
 -- ---- refusing
 
 -- what a call on the last block leaves, where it may be done
-abbrev Moved : (p : ℕ) → State → Cells → Bool → After Bool
-Moved p s cells done = elim done [ true ↦ after true (with_own s (region_own (chunk_of s) p)) cells | false ↦ after false s cells ]
-
 case-kept : (p size n : ℕ) (s : State) (cells : Cells) (q : Bool) → KeptOnNone s cells (Served p size n s cells q)
 case-kept p size n s cells true h = absurd (cc)
 case-kept p size n s cells false h = (refl, refl)
@@ -204,10 +201,6 @@ region-owning size align e = record {
   along = region-along;
 }
 
-case-count : (p : ℕ) (s : State) (cells : Cells) (q : Bool) → length (Moved p s cells q).cells.tags ≡ length cells.tags
-case-count p s cells true = refl
-case-count p s cells false = refl
-
 region-taking : (size align : ℕ) (e : Rules) → TakingLaws e → TakingLaws (region_rules size align e)
 unfolding region_rules
 region-taking size align e p =
@@ -215,7 +208,7 @@ region-taking size align e p =
     record {
       allocate = λ n. takes-asked_for f n (region_next align n) (allocate-takes f position_of (up n align) n);
       aligned_allocate = λ n a. takes-asked_for f n (region_aligned align n a) (allocate-takes f (λ s. up (position_of s) (max a align)) (up n align) n);
-      deallocate_count = λ b s cells. case-count b.place s cells (is_last align b s);
+      deallocate_count = count-deallocated align;
       deallocate_all_count = λ s cells. refl;
       set_up = λ need cells.
           let chunk = region_chunk size align need in

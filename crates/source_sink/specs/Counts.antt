@@ -5,6 +5,10 @@ use Rattle.std.specs.Prelude.{ℕ, ◌+◌, ◌-◌, ◌^◌, ◌≤◌, min}
 abbrev pub most_faults : ℕ
 most_faults = 2 ^ 64 - 1
 
+-- one more, up to the greatest count
+abbrev pub one_more : (count : ℕ) → ℕ
+one_more count = min (count + 1) most_faults
+
 -- A count rose where it is greater than before, or stands at its greatest.
 abbrev pub Rose : (before now : ℕ) → Type 0
-Rose before now = min (before + 1) most_faults ≤ now
+Rose before now = one_more before ≤ now

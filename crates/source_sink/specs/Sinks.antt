@@ -13,3 +13,12 @@ pub record Holding : Type 0 where
   pub bytes : List ℕ
   pub free : ℕ
   pub faults : ℕ
+
+-- a sink in memory that fails in named calls: its bytes, for how many more there is room, how often it was
+-- called, the numbers of the calls that fail, and how often it has failed
+pub record Keeping : Type 0 where
+  pub bytes : List ℕ
+  pub free : ℕ
+  pub calls : ℕ
+  pub failing : List ℕ
+  pub faults : ℕ

@@ -23,3 +23,14 @@ finishes (Err _) = true
 pub record Giving : Type 0 where
   pub left : List ℕ
   pub finished : Bool
+
+-- a source in memory that fails in named calls: the bytes that it has left, how many of them it gives at most in
+-- a call, how often it was called, the numbers of the calls that fail, how often it has failed, and whether it
+-- is finished
+pub record Feeding : Type 0 where
+  pub left : List ℕ
+  pub most : ℕ
+  pub calls : ℕ
+  pub failing : List ℕ
+  pub faults : ℕ
+  pub finished : Bool

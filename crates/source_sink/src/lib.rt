@@ -1,6 +1,7 @@
 //! What a program reads from and writes to, each with a count of its faults.
 #![tactic(auto)]
 
+mod memory;
 mod sink;
 mod source;
 mod standard;
@@ -8,6 +9,7 @@ mod still;
 #[cfg(test)]
 mod tests;
 
+pub use memory::{MemorySink, MemorySource};
 pub use sink::Sink;
 pub use source::Source;
 pub use standard::{StdSink, StdSource};

@@ -9,7 +9,7 @@ use std::alloc::Global;
 use std::marker::Model;
 
 // Copies from the front as many bytes as there are and fit, and says how many.
-fn copy_front(from: &[u8], into: &mut [u8]) -> usize
+pub(crate) fn copy_front(from: &[u8], into: &mut [u8]) -> usize
     ensures count { result ≡ min (length from.now) (length into.new) }
     ensures bytes { from.now ≡ take result into.new ++ drop result from.now }
 {

@@ -1,10 +1,13 @@
 // What no clause says: that the calls succeed, and how they fare over a reader and a writer that fail in mid-stream.
 ghost use Rattle.std.specs.Prelude.{◌≡◌, ◌<◌, false, length};
 
-use crate::{Failed, Sink, Source, StdSink, StdSource, StillSink, StillSource};
+use crate::{
+    Failed, MemorySink, MemorySource, Sink, Source, StdSink, StdSource, StillSink, StillSource,
+};
 use space_core::Space;
 use std::io;
 use std::io::{ErrorKind, Read, Write};
+use std::process::Abort;
 use std::test::Fail;
 
 // Gives `abc`, fails once, gives `abc` again, and then nothing more.
@@ -51,6 +54,66 @@ impl Write for TornWriter {
         Ok(())
     }
 }
+
+// A source of 17 bytes: how many it gives at most in a call, the calls that fail, and its answers to slices of
+// 12 bytes until it is finished.
+struct Taking {
+    most: usize,
+    failing: &'static [u64],
+    answers: &'static [Result<usize, Failed>],
+}
+
+const TAKINGS: [Taking; 4] = [
+    Taking {
+        most: 10,
+        failing: &[1],
+        answers: &[Ok(10), Err(Failed)],
+    },
+    Taking {
+        most: 10,
+        failing: &[],
+        answers: &[Ok(10), Ok(7), Ok(0)],
+    },
+    Taking {
+        most: 20,
+        failing: &[7],
+        answers: &[Ok(12), Ok(5), Ok(0)],
+    },
+    Taking {
+        most: 20,
+        failing: &[3, 0],
+        answers: &[Err(Failed)],
+    },
+];
+
+// A sink: its room, the calls that fail, the answers to three pieces of three bytes, and what it holds then.
+struct Putting {
+    free: usize,
+    failing: &'static [u64],
+    answers: &'static [Result<usize, Failed>],
+    held: &'static [u8],
+}
+
+const PUTTINGS: [Putting; 3] = [
+    Putting {
+        free: 9,
+        failing: &[1],
+        answers: &[Ok(3), Err(Failed), Ok(3)],
+        held: b"abcabc",
+    },
+    Putting {
+        free: 5,
+        failing: &[],
+        answers: &[Ok(3), Err(Failed), Err(Failed)],
+        held: b"abc",
+    },
+    Putting {
+        free: 5,
+        failing: &[7, 0],
+        answers: &[Err(Failed), Ok(3), Err(Failed)],
+        held: b"abc",
+    },
+];
 
 // One call through the bound.
 fn take_from<S: Source>(source: &mut S, into: &mut [u8]) -> Result<usize, Failed>
@@ -110,5 +173,52 @@ fn what_is_in_memory_comes_and_goes_whole(rt: HostRuntime) -> Result<(), Fail> {
         format!(in rt.alloc(); "{Failed}")?.as_str(),
         "the device failed"
     );
+    Ok(())
+}
+
+#[test]
+fn a_source_in_memory_fails_in_the_named_calls(rt: HostRuntime) -> Result<(), Fail> {
+    for row in &TAKINGS {
+        takes(&rt, row)?;
+    }
+    Ok(())
+}
+
+fn takes(rt: &(impl AllocGlobal + Abort), row: &Taking) -> Result<(), Fail> {
+    let alloc = rt.alloc();
+    let bytes = Vec::from_slice(alloc, b"seventeen letters")?;
+    assert!(rt; 1 <= row.most);
+    let mut source = MemorySource::new(bytes, row.most, Vec::from_slice(alloc, row.failing)?);
+    let mut into = [0; 12];
+    let mut open = true;
+    for want in row.answers {
+        assert!(rt; open);
+        let answer = source.take(&mut into);
+        assert_eq!(rt; answer, *want);
+        open = matches!(answer, Ok(1..));
+    }
+    assert!(rt; !open);
+    Ok(())
+}
+
+#[test]
+fn a_sink_in_memory_fails_in_the_named_calls(rt: HostRuntime) -> Result<(), Fail> {
+    for row in &PUTTINGS {
+        puts(&rt, row)?;
+    }
+    Ok(())
+}
+
+fn puts(rt: &(impl AllocGlobal + Abort), row: &Putting) -> Result<(), Fail> {
+    let alloc = rt.alloc();
+    let space = Space::closed();
+    let failing = Vec::from_slice(alloc, row.failing)?;
+    let Ok(mut sink) = MemorySink::new(alloc, row.free, failing) else {
+        panic!(rt; "no memory");
+    };
+    for want in row.answers {
+        assert_eq!(rt; put_into(&mut sink, b"abc", &space), *want);
+    }
+    assert_eq!(rt; sink.bytes(), row.held);
     Ok(())
 }

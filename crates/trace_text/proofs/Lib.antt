@@ -1,3 +1,9 @@
 pub mod Numbers
-pub mod Fields
-pub mod CanonicalLines
+pub mod Paths
+pub mod Rows
+pub mod FieldKinds
+pub mod Lines
+pub mod Octets
+pub mod Printing
+pub mod WholeLines
+pub mod Printed

@@ -1,4 +1,7 @@
+pub mod Fields
 pub mod Grammar
+pub mod Steps
+pub mod Parts
 pub mod Text
-pub mod Canonical
-pub mod Reading
+pub mod Spelling
+pub mod Laws

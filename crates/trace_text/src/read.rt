@@ -1,135 +1,167 @@
 // Lines read as calls.
-ghost use Rattle.std.specs.Prelude.{◌≡◌, ◌≤◌, ◌<◌, ◌^◌, ◌∷◌, IfSome, true};
-ghost use Rattle.std.specs.List.{position};
-ghost use Rattle.std.specs.Option.{SomeIff, option_copied};
-ghost use Rattle.std.specs.Str.{all_ascii_digits};
-ghost use Rattle.std.specs.Str.Parse.{digits_value};
-ghost use Rattle.trace_text.specs.Grammar.{allocate_call, fields_call, fields_of, free_call, is_letter, is_space, line_call, number_of};
-ghost use Rattle.trace_text.specs.Reading.{fields_left};
+ghost use Rattle.std.specs.Prelude.{◌≡◌, IfOk, IfSome};
+ghost use Rattle.heap_core.specs.Performing.{IsCall};
+ghost use Rattle.trace_text.specs.Fields.{field};
+ghost use Rattle.trace_text.specs.Grammar.{letter_call, line_call, aligned_line, allocate_line, expand_line, free_all_line, free_line, good_line, owns_at_line, owns_line, read_line, reallocate_line, write_line};
+ghost use Rattle.trace_text.specs.Spelling.{IsSayable};
 
 use crate::LineFault;
+use crate::fields::{Field, Fields};
 use heap_core::Call;
 
-// Where the first space stands.
-fn first_space(line: &[u8]) -> Option<usize>
-    ensures { result ≡ position is_space line.now }
+// An allocation, by what stands behind its letter.
+fn allocate(fields: &mut Fields<'_>) -> Result<Call, LineFault>
+    ensures { result ≡ allocate_line fields.old }
 {
-    line.iter().position(|byte| *byte == b' ')
+    let name = fields.name()?;
+    let size = fields.number()?;
+    fields.end()?;
+    Ok(Call::Allocate { name, size })
 }
 
-// The first field, and what stands behind the space after it.
-#[tactic(auto, using(crate::proofs::Fields::cut_none, crate::proofs::Fields::cut_some))]
-fn cut_field(line: &[u8]) -> (&[u8], Option<&[u8]>)
-    ensures { fields_of line.now ≡ result.0.now ∷ fields_left (option_copied result.1) }
+// An aligned allocation, by what stands behind its letter.
+fn aligned(fields: &mut Fields<'_>) -> Result<Call, LineFault>
+    ensures { result ≡ aligned_line fields.old }
 {
-    match first_space(line) {
-        Some(end) => (&line[..end], Some(&line[end + 1..])),
-        None => (line, None),
-    }
+    let name = fields.name()?;
+    let size = fields.number()?;
+    let align = fields.alignment()?;
+    fields.end()?;
+    Ok(Call::Aligned { name, size, align })
 }
 
-// The number that digits say, with zeros in front or not, where it fits 64 bits.
-#[tactic(auto, using(crate::proofs::Numbers::digit_rules))]
-fn read_digits(field: &[u8]) -> Option<u64>
-    ensures { SomeIff result ((all_ascii_digits field.now ≡ true) × (digits_value 10 field.now < 2 ^ 64)) (digits_value 10 field.now) }
+// An expansion, by what stands behind its letter.
+fn expand(fields: &mut Fields<'_>) -> Result<Call, LineFault>
+    ensures { result ≡ expand_line fields.old }
 {
-    let mut value: u64 = 0;
-    for byte in field {
-        let digit = char::from(*byte).to_digit(10)?;
-        value = value.checked_mul(10)?.checked_add(u64::from(digit))?;
-    }
-    Some(value)
+    let name = fields.name()?;
+    let delta = fields.number()?;
+    fields.end()?;
+    Ok(Call::Expand { name, delta })
 }
 
-// The number that a field says, where it is at most so large.
-#[tactic(auto, unfolding(crate::specs::Grammar::number_of))]
-fn read_number(most: u64, field: &[u8]) -> Option<u64>
-    ensures number { result ≡ number_of most field.now }
-    ensures bound { IfSome result (λ number. number ≤ most) }
+// A reallocation, by what stands behind its letter.
+fn reallocate(fields: &mut Fields<'_>) -> Result<Call, LineFault>
+    ensures { result ≡ reallocate_line fields.old }
 {
-    match field {
-        [] | [b'0', _, ..] => None,
-        _ => read_digits(field).filter(|number| *number <= most),
-    }
+    let name = fields.name()?;
+    let size = fields.number()?;
+    fields.end()?;
+    Ok(Call::Reallocate { name, size })
 }
 
-// The allocation under this name, of the size behind it.
-#[tactic(auto, unfolding(crate::specs::Grammar::allocate_call))]
-fn read_size(name: &[u8], size: &[u8]) -> Result<Call, LineFault>
-    ensures { result ≡ allocate_call (name.now ∷ fields_of size.now) }
+// A free, by what stands behind its letter.
+fn free(fields: &mut Fields<'_>) -> Result<Call, LineFault>
+    ensures { result ≡ free_line fields.old }
 {
-    let (size, rest) = cut_field(size);
-    let name = read_number(u64::from(u32::MAX), name);
-    let size = read_number(u64::MAX, size);
-    match (name, size, rest) {
-        (Some(name), Some(size), None) => Ok(Call::Allocate {
-            name: name as u32,
-            size,
+    let name = fields.name()?;
+    fields.end()?;
+    Ok(Call::Free { name })
+}
+
+// A free of all, by what stands behind its letter.
+fn free_all(fields: &mut Fields<'_>) -> Result<Call, LineFault>
+    ensures { result ≡ free_all_line fields.old }
+{
+    fields.end()?;
+    Ok(Call::FreeAll)
+}
+
+// A question to the root, by what stands behind its letter.
+fn owns(fields: &mut Fields<'_>) -> Result<Call, LineFault>
+    ensures { result ≡ owns_line fields.old }
+{
+    let name = fields.name()?;
+    fields.end()?;
+    Ok(Call::Owns { name })
+}
+
+// A question to another layer, by what stands behind its letter.
+fn owns_at(fields: &mut Fields<'_>) -> Result<Call, LineFault>
+    ensures { result ≡ owns_at_line fields.old }
+{
+    let name = fields.name()?;
+    let path = fields.path()?;
+    fields.end()?;
+    Ok(Call::OwnsAt { name, path })
+}
+
+// A question for a size, by what stands behind its letter.
+fn good(fields: &mut Fields<'_>) -> Result<Call, LineFault>
+    ensures { result ≡ good_line fields.old }
+{
+    let size = fields.number()?;
+    fields.end()?;
+    Ok(Call::Good { size })
+}
+
+// A write, by what stands behind its letter.
+fn write(fields: &mut Fields<'_>) -> Result<Call, LineFault>
+    ensures { result ≡ write_line fields.old }
+{
+    let name = fields.name()?;
+    let offset = fields.number()?;
+    let bytes = fields.octets()?;
+    fields.end()?;
+    Ok(Call::Write {
+        name,
+        offset,
+        bytes,
+    })
+}
+
+// A read, by what stands behind its letter.
+fn read(fields: &mut Fields<'_>) -> Result<Call, LineFault>
+    ensures { result ≡ read_line fields.old }
+{
+    let name = fields.name()?;
+    let offset = fields.number()?;
+    let len = fields.count()?;
+    fields.end()?;
+    Ok(Call::Read { name, offset, len })
+}
+
+// The call of the first field, which is its letter, and of what stands behind it.
+#[tactic(auto, unfolding(crate::specs::Grammar::letter_call))]
+fn read_call(letter: Field<'_>, fields: &mut Fields<'_>) -> Result<Call, LineFault>
+    ensures { result ≡ letter_call (field letter.entry.column letter.entry.text.now) fields.old }
+{
+    match letter.text {
+        [b'a'] => allocate(fields),
+        [b'l'] => aligned(fields),
+        [b'e'] => expand(fields),
+        [b'r'] => reallocate(fields),
+        [b'f'] => free(fields),
+        [b'z'] => free_all(fields),
+        [b'o'] => owns(fields),
+        [b'p'] => owns_at(fields),
+        [b'g'] => good(fields),
+        [b'w'] => write(fields),
+        [b'd'] => read(fields),
+        _ => Err(LineFault::BadLine {
+            column: letter.column,
         }),
-        _ => Err(LineFault::NotBuiltYet),
     }
 }
 
-// An allocation, by a name and a size.
-#[tactic(auto, unfolding(crate::specs::Grammar::allocate_call))]
-fn read_allocate(numbers: &[u8]) -> Result<Call, LineFault>
-    ensures { result ≡ allocate_call (fields_of numbers.now) }
-{
-    let (name, rest) = cut_field(numbers);
-    match rest {
-        Some(size) => read_size(name, size),
-        None => Err(LineFault::NotBuiltYet),
-    }
-}
-
-// A free, by a name.
-#[tactic(auto, unfolding(crate::specs::Grammar::free_call))]
-fn read_free(numbers: &[u8]) -> Result<Call, LineFault>
-    ensures { result ≡ free_call (fields_of numbers.now) }
-{
-    let (name, rest) = cut_field(numbers);
-    match (read_number(u64::from(u32::MAX), name), rest) {
-        (Some(name), None) => Ok(Call::Free { name: name as u32 }),
-        _ => Err(LineFault::NotBuiltYet),
-    }
-}
-
-// Whether a field is one letter.
-fn is_letter(letter: u8, field: &[u8]) -> bool
-    ensures { result ≡ is_letter letter field.now }
-{
-    match field {
-        [byte] => *byte == letter,
-        _ => false,
-    }
-}
-
-// The call of a letter and the numbers behind it.
-#[tactic(auto, unfolding(crate::specs::Grammar::fields_call))]
-fn read_call(letter: &[u8], numbers: &[u8]) -> Result<Call, LineFault>
-    ensures { result ≡ fields_call (letter.now ∷ fields_of numbers.now) }
-{
-    if is_letter(b'a', letter) {
-        read_allocate(numbers)
-    } else if is_letter(b'f', letter) {
-        read_free(numbers)
-    } else {
-        Err(LineFault::NotBuiltYet)
-    }
-}
-
-/// Reads one line, without its newline, of any length.
+/// Reads one line, without its newline. A line with no field, and one whose first field begins with `#`, is no call.
 ///
 /// # Errors
-/// `NotBuiltYet` for each line but `a NAME SIZE` and `f NAME` with single spaces and decimal numbers with no zero in
-/// front, where a name is at most 2^32 - 1 and a size, in bytes, at most 2^64 - 1.
-#[tactic(auto, unfolding(crate::specs::Grammar::line_call, crate::specs::Grammar::fields_call, crate::specs::Grammar::allocate_call, crate::specs::Grammar::free_call))]
-pub fn read_line(line: &[u8]) -> Result<Call, LineFault>
-    ensures { result ≡ line_call line.now }
+/// `TooLong` for more than 256 bytes. Else the first field that is not as it should be decides: `NumberTooLarge` for
+/// digits alone that say more than may stand there, and `BadLine` for all else, with the column of the field.
+#[tactic(auto, unfolding(crate::specs::Grammar::line_call))]
+pub fn read_line(line: &[u8]) -> Result<Option<Call>, LineFault>
+    ensures read { result ≡ line_call line.now }
+    ensures call { IfOk result (λ call. IfSome call IsCall) }
+    ensures sayable { IfOk result (λ call. IfSome call IsSayable) }
 {
-    let (letter, rest) = cut_field(line);
-    match rest {
-        Some(numbers) => read_call(letter, numbers),
-        None => Err(LineFault::NotBuiltYet),
+    if line.len() > 256 {
+        return Err(LineFault::TooLong);
+    }
+    let mut fields = Fields::of(line);
+    match fields.next_field() {
+        Ok(first) if !first.text.starts_with(b"#") => Ok(Some(read_call(first, &mut fields)?)),
+        // A comment, or no field at all.
+        _ => Ok(None),
     }
 }

@@ -5,5 +5,5 @@ use Rattle.play_core.proofs.expression.check_text.Goals as goal
 
 pub build-requires-clause-leaves : goal.build-requires-clause-leaves
 build-requires-clause-leaves c =
-    let fits = c.accepted_are_compositions.ensures c.requires.accepted.0 (tree_of c.args.expr.now) c.requires.accepted.1 0 in
+    let fits = c.buildable_are_compositions.ensures (tree_of c.args.expr.now) c.requires.buildable 0 in
     omega (arith, ap (λ (m : Memory). m.leaves) c.requires.closed, fits.few)

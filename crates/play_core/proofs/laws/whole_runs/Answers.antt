@@ -7,9 +7,11 @@ returns c =
     (record {
       begins = c.runs_go_on.ensures.begins;
       goes_on = c.runs_go_on.ensures.goes_on;
-      zeros = c.runs_go_on.ensures.zeros;
       moves = c.calls_are_moves.ensures.moves;
       blocks = c.live_blocks_are_apart.ensures.blocks;
       null = c.answers_are_exact.ensures.null;
+      null_aligned = c.answers_are_exact.ensures.null_aligned;
+      refused = c.answers_are_exact.ensures.refused;
+      sayable = c.read_is_sayable.ensures;
       accepted = c.accepted_are_compositions.ensures;
     })

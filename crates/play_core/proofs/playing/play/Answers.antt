@@ -6,7 +6,7 @@ use Rattle.play_core.proofs.playing.play.Goals as goal
 
 pub build-requires-clause-leaves : goal.build-requires-clause-leaves
 build-requires-clause-leaves g c =
-    let fits = c.accepted_are_compositions.ensures c.requires.accepted.0 (tree_of c.args.expr.now) c.requires.accepted.1 0 in
+    let fits = c.buildable_are_compositions.ensures (tree_of c.args.expr.now) c.requires.buildable 0 in
     omega (arith, ap (λ (m : Memory). m.leaves) c.in-Ok.ensures.ok, ap (λ (m : Memory). m.leaves) c.requires.closed, fits.few)
 
 pub returns-in_default-build-clause-runs : goal.returns-in_default-build-clause-runs
@@ -16,7 +16,7 @@ returns-in_default-build-clause-runs g c =
 
 pub play_on-requires-clause-stands : goal.play_on-requires-clause-stands
 play_on-requires-clause-stands g c =
-    let fits = c.accepted_are_compositions.ensures c.requires.accepted.0 (tree_of c.args.expr.now) c.requires.accepted.1 0 in
+    let fits = c.buildable_are_compositions.ensures (tree_of c.args.expr.now) c.requires.buildable 0 in
     let fresh : c.set_up.new.self ≡ fresh_memory c.args.cells 0 = c.in-Ok.ensures.ok ∙ ap (λ (m : Memory). fresh_memory c.args.cells m.leaves) c.requires.closed in
     root_stands _ (tree_of c.args.expr.now) c.set_up.new.self c.build.new.space c.args.cells c.in-Ok-build.ensures.rules c.in-Ok-build.ensures.shut fits c.in-Ok.ensures.memory fresh c.in-Ok-build.ensures.space
 

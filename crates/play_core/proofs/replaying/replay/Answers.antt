@@ -1,7 +1,7 @@
 use Rattle.std.proofs.Common.{arith, take, length, length-take-le, ap, ◌∙◌, refl}
 use Rattle.play_core.specs.Ends.{run_at, rules_at}
 use Rattle.play_core.specs.Place.{place_of}
-use Rattle.play_core.proofs.Running.{going_at_start, going_more, going_stops, going_breaks, going_ends, fed_far, fed_along, finish_along, ended, not_ended, takes_nothing, falls}
+use Rattle.play_core.proofs.Running.{going_at_start, going_more, going_stops, going_breaks, going_ends, fed_far, fed_along, finish_along, ended, not_ended, takes_nothing, took_few, falls}
 use Rattle.play_core.specs.declared.Step.TheVariants as step
 use Rattle.play_core.proofs.replaying.replay.Goals as goal
 
@@ -21,7 +21,7 @@ returns-then-count-eq0 g c =
           (takes_nothing _ _ c.take.new.into c.in-Ok.count c.in-Ok.ensures.taken c.if-count-eq0.true)
           (c.in-Ok.ensures.end c.if-count-eq0.true)
           c.in-Ok.ensures.counted
-          (ended c.in-Ok.count _ c.in-Ok.ensures.finished c.if-count-eq0.true)
+          (ended c.in-Ok.count _ c.in-Ok.ensures.finished c.if-count-eq0.true) c.taking.reader.within
           (finish_along (rules_at g.L.Layer.model c.args.heap.now) (rules_at g.L.Layer.model c.taking.heap) p t _ _ c.finish.result c.taking.invariant.rules c.finish.ensures.finishes);
       held = c.finish.ensures.held;
       rules = c.finish.ensures.rules ∙ c.taking.invariant.rules;
@@ -52,7 +52,8 @@ returns-in-Stops g c =
     let q = place_of c.feed_all.new.reader (run_at g.L.Layer.model c.feed_all.new.heap c.feed_all.new.space) in
     record {
       ran = going_stops _ _ _ _ _ _ _ _ p q (take c.in-Ok.count c.take.new.into) c.taking.invariant.going c.in-Ok.ensures.taken c.in-Ok.ensures.counted
-          (not_ended c.in-Ok.count _ c.in-Ok.ensures.finished c.if-count-eq0.false) (fed_along _ _ p q _ c.front.result.now _ _ step.Stops c.taking.invariant.rules c.front.ensures c.in-Stops.ensures.fed);
+          (not_ended c.in-Ok.count _ c.in-Ok.ensures.finished c.if-count-eq0.false)
+          (took_few c.in-Ok.count c.take.new.into c.taking.room c.min-want.result c.taking.reader.before (length c.taking.reader.begun.items) c.len.result c.take.auto.into c.min-want.ensures c.len.ensures.value) c.taking.reader.within (fed_along _ _ p q _ c.front.result.now _ _ step.Stops c.taking.invariant.rules c.front.ensures c.in-Stops.ensures.fed);
       held = c.in-Stops.ensures.held;
       rules = c.in-Stops.ensures.rules ∙ c.taking.invariant.rules;
     }
@@ -63,7 +64,8 @@ returns-in-SinkFailed g c =
     let q = place_of c.feed_all.new.reader (run_at g.L.Layer.model c.feed_all.new.heap c.feed_all.new.space) in
     record {
       ran = going_breaks _ _ _ _ _ _ _ _ p q (take c.in-Ok.count c.take.new.into) c.taking.invariant.going c.in-Ok.ensures.taken c.in-Ok.ensures.counted
-          (not_ended c.in-Ok.count _ c.in-Ok.ensures.finished c.if-count-eq0.false) (fed_along _ _ p q _ c.front.result.now _ _ step.SinkFailed c.taking.invariant.rules c.front.ensures c.in-SinkFailed.ensures.fed);
+          (not_ended c.in-Ok.count _ c.in-Ok.ensures.finished c.if-count-eq0.false)
+          (took_few c.in-Ok.count c.take.new.into c.taking.room c.min-want.result c.taking.reader.before (length c.taking.reader.begun.items) c.len.result c.take.auto.into c.min-want.ensures c.len.ensures.value) c.taking.reader.within (fed_along _ _ p q _ c.front.result.now _ _ step.SinkFailed c.taking.invariant.rules c.front.ensures c.in-SinkFailed.ensures.fed);
       held = c.in-SinkFailed.ensures.held;
       rules = c.in-SinkFailed.ensures.rules ∙ c.taking.invariant.rules;
     }

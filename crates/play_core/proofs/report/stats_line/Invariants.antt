@@ -1,0 +1,10 @@
+use Rattle.std.proofs.Common.{◌≡◌, ◌≤◌, ◌+◌, ◌*◌, ◌++◌, codes, take}
+use Rattle.arrayvec.specs.ArrayString.{array_string_len}
+use Rattle.play_core.specs.ReportText.{node_words, spaced}
+use Rattle.play_core.proofs.report.stats_line.Given as goal
+
+abbrev pub invariant-loop-number : goal.invariant-loop-number
+invariant-loop-number l = record {
+  bytes : l.line.bytes ≡ node_words l.fn.node (codes "stats") ++ spaced (take l.number-index l.number-items);
+  room : array_string_len l.line ≤ 46 + 21 * l.number-index;
+}

@@ -1,9 +1,0 @@
-use Rattle.std.proofs.Common.{arith}
-use Rattle.std.proofs.lemmas.Grind.{common_steps}
-use Rattle.trace_text.specs.Grammar.{allocate_call}
-use Rattle.trace_text.proofs.Fields.{some_field}
-use Rattle.trace_text.proofs.read.read_size.Goals as goal
-
-pub returns-in_default : goal.returns-in_default
-unfolding allocate_call
-returns-in_default c = grind (arith, common_steps, some_field c.in_default.field-0-2.now)
