@@ -1,10 +1,8 @@
 -- Runs of cells, step by step.
-use Rattle.std.proofs.Common.{ℕ, zero, suc, ◌≡◌, ◌≢◌, ◌+◌, ◌-◌, ◌≤◌, ◌<◌, Bool, true, false, not, ◌&&◌, nat_eq, length-drop, List, [], ◌∷◌, length, get_or, set, drop, Option, Some, None, refl, ap, ◌∙◌, arith}
+use Rattle.std.proofs.Common.{ℕ, zero, suc, ◌≡◌, ◌≢◌, ◌+◌, ◌-◌, ◌≤◌, ◌<◌, Bool, true, false, not, ◌&&◌, nat_eq, length-drop, List, [], ◌∷◌, length, get_or, set, drop, Option, Some, refl, ap, ◌∙◌, arith}
 use Rattle.std.proofs.Math.Seq.{drop-cons}
 use Rattle.std.proofs.lemmas.Bool.Decides.{nat_tests}
-use Rattle.std.proofs.lemmas.List.{get_or-drop, drop-drop, length-map}
-use Rattle.std.proofs.lemmas.Bool.{and_from, and_left, and_right}
-use Rattle.std.proofs.Math.ListN.{drop_of_length-le}
+use Rattle.std.proofs.lemmas.List.{get_or-drop, length-map}
 use Rattle.space_core.specs.Cells.{Cells, taken_cells, cells_with, cell_at, cells_touched, has_tag, cell_behind, more_cells, has_room_behind}
 use Rattle.space_core.specs.Runs.{starts_free, starts_taken, is_free_run, is_taken_run, first_run, put_run}
 
@@ -115,52 +113,13 @@ first : (b : Bool) (x y : Option ℕ) → b ≡ true → elim b as (λ _. Option
 first true x y e = refl
 first false x y e = absurd (cc)
 
-passed : (allowed : ℕ → Bool) (n c : ℕ) (u : Bool) (us : List Bool) → (allowed c && starts_free n (u ∷ us)) ≡ false → first_run allowed n c (u ∷ us) ≡ first_run allowed n (suc c) us
+pub passed : (allowed : ℕ → Bool) (n c : ℕ) (u : Bool) (us : List Bool) → (allowed c && starts_free n (u ∷ us)) ≡ false → first_run allowed n c (u ∷ us) ≡ first_run allowed n (suc c) us
 unfolding first_run
 passed allowed n c u us e = second (allowed c && starts_free n (u ∷ us)) (Some c) (first_run allowed n (suc c) us) e
 
-found : (allowed : ℕ → Bool) (n c : ℕ) (u : Bool) (us : List Bool) → (allowed c && starts_free n (u ∷ us)) ≡ true → first_run allowed n c (u ∷ us) ≡ Some c
+pub found : (allowed : ℕ → Bool) (n c : ℕ) (u : Bool) (us : List Bool) → (allowed c && starts_free n (u ∷ us)) ≡ true → first_run allowed n c (u ∷ us) ≡ Some c
 unfolding first_run
 found allowed n c u us e = first (allowed c && starts_free n (u ∷ us)) (Some c) (first_run allowed n (suc c) us) e
-
--- where unit k of a run from c on is taken or past the end, no run begins from c to there
-skipped : (allowed : ℕ → Bool) (n c k : ℕ) (us : List Bool) → k < n → get_or us k true ≡ true → first_run allowed n c us ≡ first_run allowed n (c + suc k) (drop (suc k) us)
-unfolding first_run
-skipped allowed n c k [] l e = refl
-skipped allowed n c zero (u ∷ us) l e =
-    let q : c + 1 ≡ suc c = omega arith in
-    rw q (passed allowed n c u us (and_right (allowed c) (starts_free n (u ∷ us)) (not_free n zero (u ∷ us) l e)))
-skipped allowed n c (suc k) (u ∷ us) l e =
-    let q : c + suc (suc k) ≡ suc c + suc k = omega arith in
-    rw q (passed allowed n c u us (and_right (allowed c) (starts_free n (u ∷ us)) (not_free n (suc k) (u ∷ us) l e)) ∙ skipped allowed n (suc c) k us (omega arith) e)
-
--- the first run that begins at cell c or behind it
-abbrev pub first_from : (allowed : ℕ → Bool) (n : ℕ) → List ℕ → ℕ → Option ℕ
-first_from allowed n T c = first_run allowed n c (drop c (row T))
-
-pub first-end : (allowed : ℕ → Bool) (n : ℕ) (T : List ℕ) (c : ℕ) → length T ≤ c → first_from allowed n T c ≡ None
-unfolding first_run
-first-end allowed n T c h = let k : length (row T) ≤ c = rw length-row h in rw (drop_of_length-le (row T) k) refl
-
-pub first-unaligned : (allowed : ℕ → Bool) (n : ℕ) (T : List ℕ) (c : ℕ) → c < length T → allowed c ≡ false → first_from allowed n T c ≡ first_from allowed n T (c + 1)
-first-unaligned allowed n T c h e =
-    let q : c + 1 ≡ suc c = omega arith in
-    let u = not (nat_eq (get_or T c 0) 0) in
-    rw (row-cons T c h, q) (passed allowed n c u (drop (suc c) (row T)) (and_left (allowed c) (starts_free n (u ∷ drop (suc c) (row T))) e))
-
-pub first-here : (allowed : ℕ → Bool) (n : ℕ) (T : List ℕ) (c : ℕ) → c < length T → allowed c ≡ true → is_free_run (row T) c n ≡ true → first_from allowed n T c ≡ Some c
-first-here allowed n T c h e f =
-    let g = rw (row-cons T c h) at f in
-    rw (row-cons T c h) (found allowed n c (not (nat_eq (get_or T c 0) 0)) (drop (c + 1) (row T)) (and_from (allowed c) (starts_free n (not (nat_eq (get_or T c 0) 0) ∷ drop (c + 1) (row T))) e g))
-
-pub first-behind : (allowed : ℕ → Bool) (n : ℕ) (T : List ℕ) (c j : ℕ) → c ≤ j → j < c + n → (j < length T → get_or T j 0 ≢ 0) → first_from allowed n T c ≡ first_from allowed n T (j + 1)
-first-behind allowed n T c j a b h =
-    let k = j - c in
-    let p : c + k ≡ j = omega arith in
-    let q : c + suc k ≡ j + 1 = omega arith in
-    let t : get_or (drop c (row T)) k true ≡ true = rw (get_or-drop c (row T) k true, p) (row-taken T j h) in
-    let s = skipped allowed n c k (drop c (row T)) (omega arith) t in
-    rw (drop-drop (suc k) c (row T), q) at s
 
 -- ---- a run that is put
 

@@ -4,5 +4,8 @@ pub mod Held
 pub mod Leaf
 pub mod Memory
 pub mod Runs
+pub mod Summaries
+pub mod Tables
+pub mod Trees
 pub mod Words
 pub mod Writes

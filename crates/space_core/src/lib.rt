@@ -4,21 +4,26 @@
 mod leaf;
 mod runs;
 mod store;
+mod table;
+mod tree;
 mod words;
 
 ghost use Rattle.std.specs.Prelude.{◌≡◌, ◌+◌, ◌*◌, ◌≤◌, ◌<◌, ◌↔◌, true, false, length, slice_index, slice_range, slice_set, option_map, IsNone, IfNone, IfSome, OnSome, OnOk, OnErr};
 ghost use Rattle.std.specs.Borrow.{Lends, Array, sem, u8 as byte};
 ghost use Rattle.size_round.specs.Sizes.{limit};
-ghost use Rattle.space_core.specs.Cells.{cell_size, used_by, free_tag, tag_cells, least_cells, cells_granted, has_tag, cells_given, has_room_behind, cells_grown};
+ghost use Rattle.space_core.specs.Cells.{cell_size, taken_cells, is_aligned_cell, used_by, free_tag, tag_cells, least_cells, cells_granted, has_tag, cells_given, has_room_behind, cells_grown};
 ghost use Rattle.space_core.specs.Memory.{IsMemory, most_cells, most_leaves, no_memory, fresh_memory};
 ghost use Rattle.space_core.specs.Words.{word_at, put_word, filled, write_from, IsCopied};
+ghost use Rattle.space_core.specs.Runs.{first_run};
 ghost use Rattle.space_core.specs.contracts.Space.{the_row};
 
 pub use leaf::Mem;
 use std::alloc::{AllocError, Global};
 use std::marker::Model;
 use store::Store;
+use table::CellTable;
 use thiserror::Error;
+pub use tree::{RunTree, Summary};
 
 /// The bytes of a cell.
 pub const CELL_SIZE: u64 = 64;
@@ -85,9 +90,9 @@ impl Space {
     {
         let leaves = self.leaves;
         let bytes = vec![in alloc; 0u8; CELL_SIZE as usize * cells as usize]?;
-        let tags = vec![in alloc; 0u32; cells as usize]?;
+        let table = CellTable::new(alloc, cells)?;
         *self = Space {
-            store: Store::Open { bytes, tags },
+            store: Store::Open { bytes, table },
             leaves,
         };
         Ok(())
@@ -113,6 +118,17 @@ impl Space {
         ensures { result ≡ slice_index self.now.cells.tags cell }
     {
         self.tags()[cell as usize]
+    }
+
+    /// Which cells are free, as a tree of runs.
+    pub fn runs(&self) -> &RunTree
+        requires { 1 ≤ length self.now.cells.tags }
+        ensures { result.now ≡ taken_cells self.now.cells }
+    {
+        match &self.store {
+            Store::Open { bytes: _, table } => table.runs(),
+            Store::Closed { none: _ } => unreachable!(),
+        }
     }
 
     /// How many cells have the tag.
@@ -159,7 +175,7 @@ impl Space {
         ensures after { self.new ≡ record self.old { bytes = slice_set self.old.bytes place value } }
         ensures memory { IsMemory self.new }
     {
-        if let Store::Open { bytes, tags: _ } = &mut self.store {
+        if let Store::Open { bytes, table: _ } = &mut self.store {
             bytes[place as usize] = value;
         }
     }
@@ -170,7 +186,7 @@ impl Space {
         ensures after { self.new ≡ record self.old { bytes = put_word self.old.bytes place value } }
         ensures memory { IsMemory self.new }
     {
-        if let Store::Open { bytes, tags: _ } = &mut self.store {
+        if let Store::Open { bytes, table: _ } = &mut self.store {
             words::write_word(bytes.as_mut_slice(), place as usize, value);
         }
     }
@@ -181,7 +197,7 @@ impl Space {
         ensures after { self.new ≡ record self.old { bytes = filled self.old.bytes place n value } }
         ensures memory { IsMemory self.new }
     {
-        if let Store::Open { bytes, tags: _ } = &mut self.store {
+        if let Store::Open { bytes, table: _ } = &mut self.store {
             runs::put_run(bytes.as_mut_slice(), place as usize, n as usize, value);
         }
     }
@@ -194,7 +210,7 @@ impl Space {
         ensures after { self.new ≡ record self.old { bytes = self.new.bytes } }
         ensures memory { IsMemory self.new }
     {
-        if let Store::Open { bytes, tags: _ } = &mut self.store {
+        if let Store::Open { bytes, table: _ } = &mut self.store {
             let from = source as usize;
             bytes.copy_within(from..from + n as usize, target as usize);
         }
@@ -232,7 +248,7 @@ impl Space {
         ensures memory { IsMemory self.new }
     {
         let cells = ((bytes + (CELL_SIZE - 1)) / CELL_SIZE) as usize;
-        match runs::find_run(self.tags(), cells, align as usize) {
+        match self.find_run(cells, align as usize) {
             Some(first) => {
                 self.put_tag(tag, first, cells);
                 Some(CELL_SIZE * first as u64)
@@ -285,8 +301,8 @@ impl Space {
         ensures after { self.new ≡ record self.old { cells = free_tag tag self.old.cells } }
         ensures memory { IsMemory self.new }
     {
-        if let Store::Open { bytes: _, tags } = &mut self.store {
-            runs::free_tag(tags.as_mut_slice(), tag);
+        if let Store::Open { bytes: _, table } = &mut self.store {
+            table.free_tag(tag);
         }
     }
 
@@ -304,14 +320,28 @@ impl Space {
         self.store.tags()
     }
 
+    /// The least cell from which so many cells are free, and which begins at a multiple of `align` bytes, or of 64.
+    fn find_run(&self, cells: usize, align: usize) -> Option<usize>
+        requires some { 1 ≤ cells }
+        requires align { align ≤ 4096 }
+        ensures first { result ≡ first_run (λ i. is_aligned_cell align i) cells 0 (taken_cells self.now.cells) }
+        ensures within { IfSome result (λ cell. cell + cells ≤ length self.now.cells.tags) }
+        ensures memory { IsMemory self.now }
+    {
+        match &self.store {
+            Store::Open { bytes: _, table } => table.find_run(cells, align),
+            Store::Closed { none: _ } => None,
+        }
+    }
+
     /// Gives the tag to so many cells from the first on.
     fn put_tag(&mut self, tag: u32, first: usize, cells: usize)
         requires { first + cells ≤ length self.old.cells.tags }
         ensures after { self.new ≡ record self.old { cells = tag_cells tag first cells self.old.cells } }
         ensures memory { IsMemory self.new }
     {
-        if let Store::Open { bytes: _, tags } = &mut self.store {
-            runs::put_run(tags.as_mut_slice(), first, cells, tag);
+        if let Store::Open { bytes: _, table } = &mut self.store {
+            table.put_run(tag, first, cells);
         }
     }
 }
@@ -339,6 +369,7 @@ mod tests {
         space.give(tag, CELL_SIZE * u64::from(cell), CELL_SIZE);
         assert!(rt; cell < space.cells());
         assert_eq!(rt; space.tag(cell), 0);
+        assert!(rt; space.runs().is_free(cell));
     }
 
     /// Asks for more bytes behind so many of a cell's own, and wants the answer.

@@ -1,13 +1,13 @@
 //! Runs of cells in a table of tags, where 0 is free.
-ghost use Rattle.std.specs.Prelude.{◌≡◌, ◌≢◌, ◌+◌, ◌≤◌, ◌<◌, ◌^◌, true, length, slice_index, map, count_by, nat_eq, cond, IfSome, IfNone};
+ghost use Rattle.std.specs.Prelude.{◌≡◌, ◌≢◌, ℕ, ◌+◌, ◌≤◌, ◌<◌, ◌^◌, true, length, slice_index, count_by, nat_eq, IfSome, IfNone};
 ghost use Rattle.space_core.specs.Cells.{taken_cells, is_aligned_cell};
 ghost use Rattle.space_core.specs.Memory.{most_cells};
-ghost use Rattle.space_core.specs.Runs.{is_free_run, first_run, put_run};
+ghost use Rattle.space_core.specs.Runs.{is_free_run, put_run};
 
 use crate::CELL_SIZE;
 
 /// Whether the cell begins at a multiple of `align` bytes, or of 64 where that is more.
-fn is_aligned(cell: usize, align: usize) -> bool
+pub fn is_aligned(cell: usize, align: usize) -> bool
     requires { cell ≤ most_cells }
     ensures { result ≡ is_aligned_cell align cell }
 {
@@ -44,30 +44,6 @@ pub fn is_free(tags: &[u32], from: usize, cells: usize) -> bool
     }
 }
 
-/// The least cell from which so many cells are free, and which begins at a multiple of `align` bytes, or of 64.
-///
-/// Each cell is looked at once: no run can begin at or before a cell that is taken.
-pub fn find_run(tags: &[u32], cells: usize, align: usize) -> Option<usize>
-    requires some { 1 ≤ cells }
-    requires most { cells < 2 ^ 62 }
-    requires table { length tags.now ≤ most_cells }
-    ensures first { result ≡ first_run (λ i. is_aligned_cell align i) cells 0 (taken_cells (record { tags = tags.now })) }
-    ensures within { IfSome result (λ cell. cell + cells ≤ length tags.now) }
-{
-    let mut from = 0;
-    while from < tags.len() {
-        if is_aligned(from, align) {
-            match first_taken(tags, from, cells) {
-                Some(taken) => from = taken + 1,
-                None => return Some(from),
-            }
-        } else {
-            from += 1;
-        }
-    }
-    None
-}
-
 /// Writes the value at `n` indices from `from` on.
 pub fn put_run<T: Copy>(items: &mut [T], from: usize, n: usize, value: T)
     requires within { from + n ≤ length items.old }
@@ -79,15 +55,20 @@ pub fn put_run<T: Copy>(items: &mut [T], from: usize, n: usize, value: T)
     }
 }
 
-/// Frees each cell that has the tag.
-pub fn free_tag(tags: &mut [u32], tag: u32)
-    ensures { tags.new ≡ map (λ t. cond (nat_eq t tag) 0 t) tags.old }
+/// The first cell from `from` on that doesn't have the tag, or the table's end.
+pub fn tag_end(tags: &[u32], from: usize, tag: u32) -> usize
+    requires { from ≤ length tags.now }
+    ensures from { from ≤ result }
+    ensures within { result ≤ length tags.now }
+    ensures has { (cell : ℕ) → from ≤ cell → cell < result → slice_index tags.now cell ≡ tag }
+    ensures ends { result < length tags.now → slice_index tags.now result ≢ tag }
 {
-    for t in tags.iter_mut() {
-        if *t == tag {
-            *t = 0;
+    for cell in from..tags.len() {
+        if tags[cell] != tag {
+            return cell;
         }
     }
+    tags.len()
 }
 
 /// How many cells have the tag.

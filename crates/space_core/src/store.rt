@@ -3,12 +3,14 @@ ghost use Rattle.std.specs.Prelude.{◌≡◌, ◌+◌, ◌≤◌, [], length, s
 ghost use Rattle.std.specs.Borrow.{sem};
 ghost use Rattle.space_core.specs.Held.{held_bytes, held_tags, LendsBytes};
 
-/// Nothing before the Space is set up, and then 64 bytes and one tag for each cell.
+use crate::table::CellTable;
+
+/// Nothing before the Space is set up, and then 64 bytes for each cell and the table of cells.
 #[derive(Drop)]
 pub enum Store {
     /// `none` stands for its bytes where they are lent for writing.
     Closed { none: [u8; 0] },
-    Open { bytes: Vec<u8>, tags: Vec<u32> },
+    Open { bytes: Vec<u8>, table: CellTable },
 }
 
 impl Store {
@@ -16,7 +18,7 @@ impl Store {
         ensures { result.now ≡ held_bytes self.now }
     {
         match self {
-            Store::Open { bytes, tags: _ } => bytes.as_slice(),
+            Store::Open { bytes, table: _ } => bytes.as_slice(),
             Store::Closed { none: _ } => &[],
         }
     }
@@ -25,7 +27,7 @@ impl Store {
         ensures { result.now ≡ held_tags self.now }
     {
         match self {
-            Store::Open { bytes: _, tags } => tags.as_slice(),
+            Store::Open { bytes: _, table } => table.tags(),
             Store::Closed { none: _ } => &[],
         }
     }
@@ -38,7 +40,7 @@ impl Store {
         ensures value { result.now ≡ slice_range (held_bytes self.old) from to }
     {
         match self {
-            Store::Open { bytes, tags: _ } => bytes.slice_mut(from..to),
+            Store::Open { bytes, table: _ } => bytes.slice_mut(from..to),
             Store::Closed { none } => {
                 has_no_byte(none);
                 none.as_mut_slice()

@@ -10,11 +10,11 @@ use Rattle.space_core.proofs.Space.lend_mut.Goals as goal
 held_memory-written : (store : Store) (leaves place : ℕ) (written : List ℕ) → held_memory (with_bytes_from store place written) leaves ≡ record (held_memory store leaves) { bytes = write_from (held_bytes store) place written }
 held_memory-written (Closed none) leaves place written =
     ap (λ bs. record (held_memory (Closed none) leaves) { bytes = bs }) (sym (write_from-nil place written))
-held_memory-written (Open bytes tags) leaves place written =
+held_memory-written (Open bytes table) leaves place written =
     let old = bytes.items in
     let all = take place old ++ (written ++ drop (length written) (drop place old)) in
     let cut = ap (λ n. take n (all ++ drop (length all) old)) bytes.ok.0 ∙ write_from-refill old place written (drop (length all) old) in
-    ap (λ bs. record (held_memory (Open bytes tags) leaves) { bytes = bs }) cut
+    ap (λ bs. record (held_memory (Open bytes table) leaves) { bytes = bs }) cut
 
 pub returns : goal.returns
 returns c =
