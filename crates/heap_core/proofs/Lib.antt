@@ -1,6 +1,7 @@
 pub mod ByteLemmas
 pub mod HeldLemmas
 pub mod NameLemmas
+pub mod TableLemmas
 pub mod RunSteps
 pub mod Stepping
 pub mod Serving

@@ -1,136 +1,236 @@
--- What a look-up finds in a table of names, and what an edit at a place does.
-use Rattle.std.proofs.Common.{◌≡◌, ℕ, zero, suc, ◌+◌, ◌*◌, ◌^◌, ◌<◌, ◌≤◌, ◌≢◌, List, [], ◌∷◌, length, get_or, take, Some, None, Result, Ok, Err, IfOk, IfErr, is_some, Bool, true, false, not, nat_eq, nat_lt, cond, if◌then◌else◌, refl, sym, ap, subst, ◌∙◌, arith}
-use Rattle.std.specs.List.{insert, remove, sum_by}
-use Rattle.std.specs.List.Sorted.{IsSearchInRange, IsBinarySearchResult, IsNonDecreasingBy}
-use Rattle.std.specs.Ordering.{nat_cmp, ordering_index}
-use Rattle.std.proofs.lemmas.Cmp.{ranked}
-use Rattle.std.proofs.lemmas.List.Sorted.{IsNonDecreasingBy-from_default}
-use Rattle.std.proofs.lemmas.List.Edits.{length-remove, get_or-remove_below, get_or-remove_above}
+-- A table of names is told by what stands under each name; an entry more, an entry less, and sums.
+use Rattle.std.proofs.Common.{◌≡◌, ℕ, zero, suc, ◌+◌, ◌*◌, ◌^◌, ◌<◌, ◌≤◌, Bool, true, false, not, cond, nat_eq, nat_lt, List, [], ◌∷◌, length, Some, None, is_some, refl, sym, ap, subst, ◌∙◌, arith}
+use Rattle.std.specs.List.{sum_by}
 use Rattle.std.proofs.lemmas.Bool.Decides.{nat_tests}
-use Rattle.std.proofs.lemmas.List.Sums.{sum_by_more_le, sum_by-cons}
+use Rattle.std.proofs.lemmas.List.Sums.{sum_by-cons}
 use Rattle.size_round.specs.Sizes.{limit}
 use Rattle.layer_rules.specs.declared.Block.{Block}
-use Rattle.layer_rules.specs.Blocks.{no_block}
 use Rattle.layer_rules.specs.Rows.{Each}
 use Rattle.heap_core.specs.declared.Named.{Named}
-use Rattle.heap_core.specs.Names.{named, named_at, with_named, without_name, name_at, IsTable, IsAt, IsGapFor}
+use Rattle.heap_core.specs.Performing.{most_live}
+use Rattle.heap_core.specs.Names.{named, named_at, with_named, without_name, name_at, IsTable}
 
--- what is read past the end
-abbrev pub past_end : Named
-past_end = named 0 no_block
+-- ---- rising names, step by step
 
 abbrev pub IsRising : List Named → Type 0
 IsRising l = (i j : ℕ) → i < j → j < length l → name_at l i < name_at l j
 
--- no entry before place i has the name
-abbrev pub NoNameBefore : List Named → ℕ → ℕ → Type 0
-NoNameBefore l k i = (j : ℕ) → j < i → name_at l j ≢ k
+-- all names are greater than k
+abbrev pub Above : ℕ → List Named → Type 0
+Above k l = Each (λ (y : Named). k < y.name) l
 
-no_name_before_tail : (x : Named) (l : List Named) (k i : ℕ) → NoNameBefore (x ∷ l) k (suc i) → NoNameBefore l k i
-no_name_before_tail x l k i no_name j lt = no_name (suc j) (omega arith)
+-- each name is less than those behind it
+abbrev pub Ascends : List Named → Type 0
+Ascends [] = Unit {0}
+Ascends (x ∷ l) = Above x.name l × Ascends l
 
-is_at_tail : (x : Named) (l : List Named) (k i : ℕ) → IsAt (x ∷ l) k (suc i) → IsAt l k i
-is_at_tail x l k i is_at = record { in_range = omega (arith, is_at.in_range); has_name = is_at.has_name }
+above_less : (j k : ℕ) (l : List Named) → j ≤ k → Above k l → Above j l
+above_less j k [] h a = tt
+above_less j k (x ∷ l) h a = (omega (arith, a.0), above_less j k l h a.1)
 
-gap_tail : (x : Named) (l : List Named) (k i : ℕ) → IsGapFor (x ∷ l) k (suc i) → IsGapFor l k i
-gap_tail x l k i gap = record {
-  in_range = omega (arith, gap.in_range);
-  smaller_before = λ j lt. gap.smaller_before (suc j) (omega arith);
-  greater_after = λ j le lt. gap.greater_after (suc j) (omega arith) (omega arith);
+above_absent : (k q : ℕ) (l : List Named) → q ≤ k → Above k l → named_at l q ≡ None
+above_absent k q [] h a = refl
+above_absent k q (x ∷ l) h a = grind (arith, nat_tests, a.0, above_absent k q l h a.1)
+
+above_from : (k : ℕ) (l : List Named) → ((j : ℕ) → j < length l → k < name_at l j) → Above k l
+above_from k [] h = tt
+above_from k (x ∷ l) h = (h 0 (omega arith), above_from k l (λ j b. h (suc j) (omega arith)))
+
+above_at : (k j : ℕ) (l : List Named) → Above k l → j < length l → k < name_at l j
+above_at k j [] a h = absurd (omega arith)
+above_at k zero (x ∷ l) a h = a.0
+above_at k (suc j) (x ∷ l) a h = above_at k j l a.1 (omega arith)
+
+pub ascends_from : (l : List Named) → IsRising l → Ascends l
+ascends_from [] h = tt
+ascends_from (x ∷ l) h = (above_from x.name l (λ j b. h 0 (suc j) (omega arith) (omega arith)), ascends_from l (λ i j a b. h (suc i) (suc j) (omega arith) (omega arith)))
+
+pub rising_from : (l : List Named) → Ascends l → IsRising l
+rising_from [] h i j a b = absurd (omega arith)
+rising_from (x ∷ l) h i zero a b = absurd (omega arith)
+rising_from (x ∷ l) h zero (suc j) a b = above_at x.name j l h.0 (omega arith)
+rising_from (x ∷ l) h (suc i) (suc j) a b = rising_from l h.1 i j (omega arith) (omega arith)
+
+-- ---- an entry more
+
+pub named-with : (x : Named) (l : List Named) (q : ℕ) → named_at l x.name ≡ None → named_at (with_named x l) q ≡ cond (nat_eq x.name q) (Some x.block) (named_at l q)
+named-with x [] q h = refl
+named-with x (y ∷ l) q h = grind (arith, nat_tests, λ (e : named_at l x.name ≡ None). named-with x l q e)
+
+Each-with : (P : Named → Type 0) (x : Named) (l : List Named) → P x → Each P l → Each P (with_named x l)
+Each-with P x [] p h = (p, tt)
+Each-with P x (y ∷ l) p h = with_by (Each-with P x l p h.1) (nat_lt x.name y.name)
+  where
+    with_by : Each P (with_named x l) → (b : Bool) → Each P (cond b (x ∷ y ∷ l) (y ∷ with_named x l))
+    with_by i true = (p, h)
+    with_by i false = (h.0, i)
+
+-- what holds of each holds of the one that was put in, and of each of the others
+pub Each-with-parts : (P : Named → Type 0) (x : Named) (l : List Named) → Each P (with_named x l) → record { one : P x; all : Each P l }
+Each-with-parts P x [] h = record { one = h.0; all = tt }
+Each-with-parts P x (y ∷ l) h = parts_by (Each-with-parts P x l) (nat_lt x.name y.name) h
+  where
+    parts_by : (Each P (with_named x l) → record { one : P x; all : Each P l }) → (b : Bool) → Each P (cond b (x ∷ y ∷ l) (y ∷ with_named x l)) → record { one : P x; all : P y × Each P l }
+    parts_by i true h = record { one = h.0; all = h.1 }
+    parts_by i false h = let r = i h.1 in record { one = r.one; all = (h.0, r.all) }
+
+pub ascends-with : (x : Named) (l : List Named) → named_at l x.name ≡ None → Ascends l → Ascends (with_named x l)
+ascends-with x [] e a = (tt, tt)
+ascends-with x (y ∷ l) e a = with_by (λ f. ascends-with x l f a.1) (nat_lt x.name y.name) refl
+  where
+    with_by : (named_at l x.name ≡ None → Ascends (with_named x l)) → (b : Bool) → nat_lt x.name y.name ≡ b → Ascends (cond b (x ∷ y ∷ l) (y ∷ with_named x l))
+    with_by i true t =
+        let o : x.name < y.name = grind (arith, nat_tests) in
+        ((o, above_less x.name y.name l (omega arith) a.0), a)
+    with_by i false t =
+        let o : y.name < x.name = grind (arith, nat_tests) in
+        let f : named_at l x.name ≡ None = grind (arith, nat_tests) in
+        (Each-with (λ (z : Named). y.name < z.name) x l o a.0, i f)
+
+-- where the names rise with it, they rise without it, and its name is new
+pub ascends-with-parts : (x : Named) (l : List Named) → Ascends (with_named x l) → record { rest : Ascends l; fresh : named_at l x.name ≡ None }
+ascends-with-parts x [] a = record { rest = tt; fresh = refl }
+ascends-with-parts x (y ∷ l) a = parts_by (ascends-with-parts x l) (nat_lt x.name y.name) a
+  where
+    parts_by : (Ascends (with_named x l) → record { rest : Ascends l; fresh : named_at l x.name ≡ None }) → (b : Bool) → Ascends (cond b (x ∷ y ∷ l) (y ∷ with_named x l)) → record { rest : Above y.name l × Ascends l; fresh : named_at (y ∷ l) x.name ≡ None }
+    parts_by i true a = record { rest = a.1; fresh = above_absent x.name x.name (y ∷ l) (omega arith) a.0 }
+    parts_by i false a =
+        let r = i a.1 in
+        let above = Each-with-parts (λ (z : Named). y.name < z.name) x l a.0 in
+        record { rest = (above.all, r.rest); fresh = grind (arith, nat_tests, above.one, r.fresh) }
+
+pub length-with : (x : Named) (l : List Named) → length (with_named x l) ≡ suc (length l)
+length-with x [] = refl
+length-with x (y ∷ l) = with_by (length-with x l) (nat_lt x.name y.name)
+  where
+    with_by : length (with_named x l) ≡ suc (length l) → (b : Bool) → length (cond b (x ∷ y ∷ l) (y ∷ with_named x l)) ≡ suc (suc (length l))
+    with_by i true = refl
+    with_by i false = ap suc i
+
+pub sum-with : (f : Named → ℕ) (x : Named) (l : List Named) → sum_by f (with_named x l) ≡ f x + sum_by f l
+sum-with f x [] = sum_by-cons f x []
+sum-with f x (y ∷ l) = with_by (sum-with f x l) (nat_lt x.name y.name)
+  where
+    with_by : sum_by f (with_named x l) ≡ f x + sum_by f l → (b : Bool) → sum_by f (cond b (x ∷ y ∷ l) (y ∷ with_named x l)) ≡ f x + sum_by f (y ∷ l)
+    with_by i true = sum_by-cons f x (y ∷ l)
+    with_by i false = omega (arith, sum_by-cons f y (with_named x l), sum_by-cons f y l)
+
+-- ---- an entry less
+
+pub named-without : (k : ℕ) (l : List Named) (q : ℕ) → named_at (without_name k l) q ≡ cond (nat_eq k q) None (named_at l q)
+named-without k [] q = grind (arith, nat_tests)
+named-without k (x ∷ l) q = without_by (named-without k l q) (nat_eq x.name k) refl
+  where
+    without_by : named_at (without_name k l) q ≡ cond (nat_eq k q) None (named_at l q) → (b : Bool) → nat_eq x.name k ≡ b → named_at (cond (not b) (x ∷ without_name k l) (without_name k l)) q ≡ cond (nat_eq k q) None (named_at (x ∷ l) q)
+    without_by i true e = grind (arith, nat_tests)
+    without_by i false e = grind (arith, nat_tests)
+
+-- without the name it isn't live
+pub without-none : (l : List Named) (k : ℕ) → named_at (without_name k l) k ≡ None
+without-none l k = named-without k l k ∙ grind (arith, nat_tests)
+
+Each-without : (P : Named → Type 0) (k : ℕ) (l : List Named) → Each P l → Each P (without_name k l)
+Each-without P k [] h = tt
+Each-without P k (x ∷ l) h = without_by (Each-without P k l h.1) (nat_eq x.name k)
+  where
+    without_by : Each P (without_name k l) → (b : Bool) → Each P (cond (not b) (x ∷ without_name k l) (without_name k l))
+    without_by i true = i
+    without_by i false = (h.0, i)
+
+pub ascends-without : (k : ℕ) (l : List Named) → Ascends l → Ascends (without_name k l)
+ascends-without k [] a = tt
+ascends-without k (x ∷ l) a = without_by (ascends-without k l a.1) (nat_eq x.name k)
+  where
+    without_by : Ascends (without_name k l) → (b : Bool) → Ascends (cond (not b) (x ∷ without_name k l) (without_name k l))
+    without_by i true = i
+    without_by i false = (Each-without (λ (y : Named). x.name < y.name) k l a.0, i)
+
+length-without : (k : ℕ) (l : List Named) → length (without_name k l) ≤ length l
+length-without k [] = omega arith
+length-without k (x ∷ l) = without_by (length-without k l) (nat_eq x.name k)
+  where
+    without_by : length (without_name k l) ≤ length l → (b : Bool) → length (cond (not b) (x ∷ without_name k l) (without_name k l)) ≤ suc (length l)
+    without_by i true = omega arith
+    without_by i false = omega arith
+
+-- without a name that is live there is an entry less
+pub without-fewer : (l : List Named) (k : ℕ) → is_some (named_at l k) ≡ true → length (without_name k l) < length l
+without-fewer [] k e = absurd (cc)
+without-fewer (x ∷ l) k e = fewer_by (nat_eq x.name k) e (without-fewer l k)
+  where
+    fewer_by : (t : Bool) → is_some (cond t (Some x.block) (named_at l k)) ≡ true → (is_some (named_at l k) ≡ true → length (without_name k l) < length l)
+        → length (cond (not t) (x ∷ without_name k l) (without_name k l)) < length (x ∷ l)
+    fewer_by true e more = omega (arith, length-without k l)
+    fewer_by false e more = omega (arith, more e)
+
+-- without a name that isn't there
+pub without-absent : (l : List Named) (k : ℕ) → named_at l k ≡ None → without_name k l ≡ l
+without-absent [] k h = refl
+without-absent (x ∷ l) k h = grind (arith, nat_tests, without-absent l k)
+
+-- ---- a table is told by what stands under each name
+
+head-same : (x : Named) (l : List Named) (y : Named) (m : List Named) → Above x.name l → Above y.name m → ((q : ℕ) → named_at (x ∷ l) q ≡ named_at (y ∷ m) q) → x ≡ y
+head-same x l y m a b h = head_by (grind (arith, nat_tests, h x.name, h y.name, above_absent y.name x.name m, above_absent x.name y.name l))
+  where
+    head_by : x.name ≡ y.name → x ≡ y
+    head_by e =
+        let f : Some x.block ≡ Some y.block = grind (arith, nat_tests, h x.name) in
+        let g : x.block ≡ y.block = cc in
+        λ i. record { name = e i; block = g i }
+
+tail-same : (x : Named) (l m : List Named) → Above x.name l → Above x.name m → ((q : ℕ) → named_at (x ∷ l) q ≡ named_at (x ∷ m) q) → (q : ℕ) → named_at l q ≡ named_at m q
+tail-same x l m a b h q = grind (arith, nat_tests, h q, above_absent x.name q l, above_absent x.name q m)
+
+pub same_table : (l m : List Named) → Ascends l → Ascends m → ((q : ℕ) → named_at l q ≡ named_at m q) → l ≡ m
+same_table [] [] a b h = refl
+same_table [] (y ∷ m) a b h = absurd (let e = h y.name in grind (arith, nat_tests))
+same_table (x ∷ l) [] a b h = absurd (let e = h x.name in grind (arith, nat_tests))
+same_table (x ∷ l) (y ∷ m) a b h =
+    let e : x ≡ y = head-same x l y m a.0 b.0 h in
+    let f : (q : ℕ) → named_at (y ∷ l) q ≡ named_at (y ∷ m) q = subst (λ (z : Named). (q : ℕ) → named_at (z ∷ l) q ≡ named_at (y ∷ m) q) e h in
+    let g : Above y.name l = subst (λ (z : Named). Above z.name l) e a.0 in
+    rw e (ap (λ t. y ∷ t) (same_table l m a.1 b.1 (tail-same y l m g b.0 f)))
+
+-- another block under a name
+pub named-replaced : (x : Named) (l : List Named) (q : ℕ) → named_at (with_named x (without_name x.name l)) q ≡ cond (nat_eq x.name q) (Some x.block) (named_at l q)
+named-replaced x l q = named-with x (without_name x.name l) q (without-none l x.name) ∙ replaced_by (nat_eq x.name q) (named-without x.name l q)
+  where
+    replaced_by : (t : Bool) → named_at (without_name x.name l) q ≡ cond t None (named_at l q) → cond t (Some x.block) (named_at (without_name x.name l) q) ≡ cond t (Some x.block) (named_at l q)
+    replaced_by true e = refl
+    replaced_by false e = e
+
+pub ascends-replaced : (x : Named) (l : List Named) → Ascends l → Ascends (with_named x (without_name x.name l))
+ascends-replaced x l a = ascends-with x (without_name x.name l) (without-none l x.name) (ascends-without x.name l a)
+
+-- taken out and put in again it is the same table
+pub named-back : (l : List Named) (k : ℕ) (b : Block) → IsRising l → named_at l k ≡ Some b → with_named (named k b) (without_name k l) ≡ l
+named-back l k b rising e =
+    let x = named k b in
+    same_table (with_named x (without_name k l)) l (ascends-replaced x l (ascends_from l rising)) (ascends_from l rising) (λ q. named-replaced x l q ∙ back_by q (nat_eq k q) refl)
+  where
+    back_by : (q : ℕ) (t : Bool) → nat_eq k q ≡ t → cond t (Some b) (named_at l q) ≡ named_at l q
+    back_by q true t = let same : k ≡ q = grind (arith, nat_tests) in sym e ∙ ap (named_at l) same
+    back_by q false t = refl
+
+-- ---- tables stay tables
+
+pub table-with : (x : Named) (l : List Named) → IsTable l → named_at l x.name ≡ None → length l < most_live → x.block.len ≤ limit → IsTable (with_named x l)
+table-with x l h f m s = record {
+  rising = rising_from (with_named x l) (ascends-with x l f (ascends_from l h.rising));
+  most = omega (arith, length-with x l);
+  short = Each-with (λ y. y.block.len ≤ limit) x l s h.short;
 }
 
-rising_tail : (x : Named) (l : List Named) → IsRising (x ∷ l) → IsRising l
-rising_tail x l rising i j lt in_range = rising (suc i) (suc j) (omega arith) (omega arith)
-
--- a name that no entry has is not found
-pub named_absent : (l : List Named) (k : ℕ) → NoNameBefore l k (length l) → named_at l k ≡ None
-named_absent [] k no_name = refl
-named_absent (x ∷ l) k no_name = grind (arith, nat_tests, no_name 0 (omega arith), named_absent l k (no_name_before_tail x l k _ no_name))
-
--- the first entry that has the name gives the block
-pub named_present : (l : List Named) (k i : ℕ) → IsAt l k i → NoNameBefore l k i → named_at l k ≡ Some (get_or l i past_end).block
-named_present [] k i is_at no_name = absurd (omega (arith, is_at.in_range))
-named_present (x ∷ l) k zero is_at no_name = grind (arith, nat_tests, is_at.has_name)
-named_present (x ∷ l) k (suc i) is_at no_name = grind (arith, nat_tests, no_name 0 (omega arith), named_present l k i (is_at_tail x l k i is_at) (no_name_before_tail x l k i no_name))
-
-module _ (l : List Named) (rising : IsRising l) (k : ℕ) where
-  -- the comparisons with k rise along the table, as a binary search asks
-  comparisons_rise : IsNonDecreasingBy (λ x. ordering_index (nat_cmp x.name k)) l
-  comparisons_rise = IsNonDecreasingBy-from_default (λ x. ordering_index (nat_cmp x.name k)) l past_end (λ i j le in_range.
-      let names_rise : name_at l i ≤ name_at l j = grind (arith, rising i j, λ (same : i ≡ j). ap (name_at l) same) in
-      grind (arith, nat_tests))
-
-  -- a binary search by name ends at the name, or at the gap for it
-  pub searched : (r : Result ℕ ℕ) → IsSearchInRange r (length l) → IsBinarySearchResult (λ x. nat_cmp x.name k) l r → record { found : IfOk r (IsAt l k); absent : IfErr r (IsGapFor l k) }
-  searched (Ok at) in_range equal = record { found = record { in_range = in_range; has_name = ranked _ k _ (sym (equal past_end)) }; absent = tt }
-  searched (Err at) in_range parted = record {
-    found = tt;
-    absent = record {
-      in_range = in_range;
-      smaller_before = λ j lt. ranked _ k _ (sym ((parted comparisons_rise).0 j past_end (omega arith) lt));
-      greater_after = λ j le lt. ranked _ k _ (sym ((parted comparisons_rise).1 j past_end le lt));
-    };
-  }
-
--- the names before the place are smaller, so none is k
-pub no_name_before_at : (l : List Named) (k at : ℕ) → IsRising l → IsAt l k at → NoNameBefore l k at
-no_name_before_at l k at rising is_at j lt same = omega (arith, rising j at lt is_at.in_range, is_at.has_name)
-
--- the block is found at the place of the name
-pub found_at : (l : List Named) (k at : ℕ) → IsRising l → IsAt l k at → named_at l k ≡ Some (get_or l at past_end).block
-found_at l k at rising is_at = named_present l k at is_at (no_name_before_at l k at rising is_at)
-
--- a name that has a gap is not found
-pub found_in_gap : (l : List Named) (k at : ℕ) → IsGapFor l k at → named_at l k ≡ None
-found_in_gap l k at gap = named_absent l k (λ j lt same. grind (arith, gap.smaller_before j, gap.greater_after j))
-
--- ---- an entry goes into its gap
-
-pub insert-with : (l : List Named) (x : Named) (at : ℕ) → IsGapFor l x.name at → insert l at x ≡ with_named x l
-insert-with [] x zero gap = refl
-insert-with [] x (suc at) gap = absurd (omega (arith, gap.in_range))
-insert-with (y ∷ l) x zero gap = grind (arith, nat_tests, gap.greater_after 0 (omega arith) (omega arith))
-insert-with (y ∷ l) x (suc at) gap = grind (arith, nat_tests, gap.smaller_before 0 (omega arith), insert-with l x at (gap_tail y l x.name at gap))
-
--- ---- an entry is taken out
-
--- a table of greater names stays whole
-pub without_greater : (l : List Named) (k : ℕ) → NoNameBefore l k (length l) → without_name k l ≡ l
-without_greater [] k no_name = refl
-without_greater (x ∷ l) k no_name = grind (arith, nat_tests, no_name 0 (omega arith), without_greater l k (no_name_before_tail x l k _ no_name))
-
-pub without_gap : (l : List Named) (k at : ℕ) → IsGapFor l k at → without_name k l ≡ l
-without_gap l k at gap = without_greater l k (λ j lt same. grind (arith, gap.smaller_before j, gap.greater_after j))
-
-pub remove-without : (l : List Named) (k at : ℕ) → IsRising l → IsAt l k at → remove l at ≡ without_name k l
-remove-without [] k at rising is_at = absurd (omega (arith, is_at.in_range))
-remove-without (x ∷ l) k zero rising is_at =
-    let greater : NoNameBefore l k (length l) = λ j lt same. omega (arith, rising 0 (suc j) (omega arith) (omega arith), is_at.has_name) in
-    grind (arith, nat_tests, is_at.has_name, without_greater l k greater)
-remove-without (x ∷ l) k (suc at) rising is_at =
-    grind (arith, nat_tests, is_at.has_name, rising 0 (suc at) (omega arith) is_at.in_range, remove-without l k at (rising_tail x l rising) (is_at_tail x l k at is_at))
-
-pub rising_remove : (l : List Named) (at : ℕ) → at < length l → IsRising l → IsRising (remove l at)
-rising_remove l at lt rising i j ij in_range =
-    let new = remove l at in
-    let name = λ (y : Named). y.name in
-    let length_new = length-remove l at lt in
-    let name_below : (i : ℕ) → i < at → name_at new i ≡ name_at l i = λ i below. ap name (get_or-remove_below l at past_end i below lt) in
-    let name_above : (i : ℕ) → at ≤ i → name_at new i ≡ name_at l (i + 1) = λ i above. ap name (get_or-remove_above l at past_end i above lt) in
-    grind (arith, name_below i, name_above i, name_below j, name_above j, rising i j, rising i (j + 1), rising (i + 1) (j + 1))
-
-pub Each-remove : (P : Named → Type 0) (l : List Named) (at : ℕ) → Each P l → Each P (remove l at)
-Each-remove P [] zero h = h
-Each-remove P [] (suc at) h = h
-Each-remove P (x ∷ l) zero h = h.1
-Each-remove P (x ∷ l) (suc at) h = (h.0, Each-remove P l at h.1)
-
-pub table_remove : (l : List Named) (k at : ℕ) → IsTable l → IsAt l k at → IsTable (remove l at)
-table_remove l k at h is_at = record {
-  rising = rising_remove l at is_at.in_range h.rising;
-  most = omega (arith, length-remove l at is_at.in_range, h.most);
-  short = Each-remove (λ y. y.block.len ≤ limit) l at h.short;
+pub table-without : (k : ℕ) (l : List Named) → IsTable l → IsTable (without_name k l)
+table-without k l h = record {
+  rising = rising_from (without_name k l) (ascends-without k l (ascends_from l h.rising));
+  most = omega (arith, length-without k l, h.most);
+  short = Each-without (λ y. y.block.len ≤ limit) k l h.short;
 }
+
+pub table-replaced : (x : Named) (l : List Named) → IsTable l → is_some (named_at l x.name) ≡ true → x.block.len ≤ limit → IsTable (with_named x (without_name x.name l))
+table-replaced x l h live s = table-with x (without_name x.name l) (table-without x.name l h) (without-none l x.name) (omega (arith, without-fewer l x.name live, h.most)) s
 
 -- ---- sums over the table
 
@@ -139,70 +239,6 @@ sum-bound : (f : Named → ℕ) (l : List Named) → Each (λ x. f x ≤ limit) 
 sum-bound f [] h = omega arith
 sum-bound f (x ∷ l) h = let more = sum_by-cons f x l in omega (arith, h.0, sum-bound f l h.1)
 
--- so the sum up to a place and the number there fit a word
-pub sum-fits : (f : Named → ℕ) (l : List Named) (i total : ℕ) → IsTable l → Each (λ x. f x ≤ limit) l → total ≡ sum_by f (take i l) → i < length l → total + f (get_or l i past_end) < 2 ^ 64
-sum-fits f l i total h short e lt =
-    let part = sum_by_more_le f l i past_end lt in
-    omega (arith, sum-bound f l short, h.most, e)
-
--- without a name that isn't there
-pub without-absent : (l : List Named) (k : ℕ) → named_at l k ≡ None → without_name k l ≡ l
-without-absent [] k h = refl
-without-absent (x ∷ l) k h = grind (arith, nat_tests, without-absent l k)
-
--- ---- a block under a name that is live
-
--- a name that is found is greater than what all names are greater than
-found-above : (n : ℕ) (l : List Named) (k : ℕ) (b : Block) → ((i : ℕ) → i < length l → n < name_at l i) → named_at l k ≡ Some b → n < k
-found-above n [] k b h e = absurd (cc)
-found-above n (x ∷ l) k b h e = grind (arith, nat_tests, h 0 (omega arith), found-above n l k b (λ i lt. h (suc i) (omega arith)))
-
-with-least : (x : Named) (l : List Named) → ((i : ℕ) → i < length l → x.name < name_at l i) → with_named x l ≡ x ∷ l
-with-least x [] h = refl
-with-least x (y ∷ l) h = grind (arith, nat_tests, h 0 (omega arith))
-
--- taken out and put in again it is the same table
-pub named-back : (l : List Named) (k : ℕ) (b : Block) → IsRising l → named_at l k ≡ Some b → with_named (named k b) (without_name k l) ≡ l
-named-back [] k b rising e = absurd (cc)
-named-back (x ∷ l) k b rising e = back-by (nat_eq x.name k) refl e (λ q. named-back l k b (rising_tail x l rising) q)
-  where
-    above : (i : ℕ) → i < length l → x.name < name_at l i
-    above i lt = rising 0 (suc i) (omega arith) (omega arith)
-
-    back-by : (t : Bool) → nat_eq x.name k ≡ t → (if t then Some x.block else named_at l k) ≡ Some b
-        → (named_at l k ≡ Some b → with_named (named k b) (without_name k l) ≡ l)
-        → with_named (named k b) (cond (not t) (x ∷ without_name k l) (without_name k l)) ≡ x ∷ l
-    back-by true q e back =
-        let same : x.name ≡ k = grind (arith, nat_tests) in
-        let block : x.block ≡ b = cc in
-        let new = named k b in
-        let is : x ≡ new = ap (λ n. let y : Named = record { name = n; block = x.block } in y) same ∙ ap (λ c. let y : Named = record { name = k; block = c } in y) block in
-        let rest : without_name k l ≡ l = without_greater l k (λ j lt p. omega (arith, above j lt)) in
-        ap (with_named new) rest ∙ (subst (λ (y : Named). with_named y l ≡ x ∷ l) is (with-least x l above))
-    back-by false q e back =
-        let less : x.name < k = found-above x.name l k b above e in
-        let later : nat_lt k x.name ≡ false = grind (arith, nat_tests) in
-        ap (λ t. if t then named k b ∷ x ∷ without_name k l else x ∷ with_named (named k b) (without_name k l)) later ∙ ap (λ xs. x ∷ xs) (back e)
-
-length-without_name : (l : List Named) (k : ℕ) → length (without_name k l) ≤ length l
-length-without_name [] k = omega arith
-length-without_name (x ∷ l) k = no_more (not (nat_eq x.name k)) (length-without_name l k)
-  where
-    no_more : (t : Bool) → length (without_name k l) ≤ length l → length (cond t (x ∷ without_name k l) (without_name k l)) ≤ length (x ∷ l)
-    no_more true h = omega arith
-    no_more false h = omega arith
-
--- without it there is an entry less
-pub without-fewer : (l : List Named) (k : ℕ) → is_some (named_at l k) ≡ true → length (without_name k l) < length l
-without-fewer [] k e = absurd (cc)
-without-fewer (x ∷ l) k e = fewer-by (nat_eq x.name k) e (without-fewer l k)
-  where
-    fewer-by : (t : Bool) → is_some (if t then Some x.block else named_at l k) ≡ true → (is_some (named_at l k) ≡ true → length (without_name k l) < length l)
-        → length (cond (not t) (x ∷ without_name k l) (without_name k l)) < length (x ∷ l)
-    fewer-by true e more = omega (arith, length-without_name l k)
-    fewer-by false e more = omega (arith, more e)
-
--- and it isn't live
-pub without-none : (l : List Named) (k : ℕ) → named_at (without_name k l) k ≡ None
-without-none [] k = refl
-without-none (x ∷ l) k = grind (arith, nat_tests, without-none l k)
+-- so it fits a word
+pub sum-fits : (f : Named → ℕ) (l : List Named) → IsTable l → Each (λ x. f x ≤ limit) l → sum_by f l < 2 ^ 64
+sum-fits f l h short = omega (arith, sum-bound f l short, h.most)

@@ -6,6 +6,7 @@ use Rattle.size_round.specs.Sizes.{limit}
 use Rattle.layer_rules.specs.Rows.{Each}
 use Rattle.layer_rules.specs.After.{Opening}
 use Rattle.layer_rules.specs.Layering.{LayerModel, kept_state, IsRoutedIn}
+use Rattle.layer_rules.specs.declared.Block.{Block}
 use Rattle.heap_core.specs.declared.Named.{Named}
 use Rattle.heap_core.specs.declared.Call.{Call}
 use Rattle.heap_core.specs.declared.Call.TheVariants.{Write}
@@ -50,8 +51,12 @@ pub record Performs (t t' : LayerModel) (table table' : List Named) (m m' : Memo
   pub shape : t'.rules ≡ t.rules
 
 -- how many bytes a block takes up where its route ends
+abbrev pub block_extent : LayerModel → Block → ℕ
+block_extent t block = (t.rules.extent block (kept_state t)).len
+
+-- the same of a block under a name
 abbrev pub extent_len : LayerModel → Named → ℕ
-extent_len t x = (t.rules.extent x.block (kept_state t)).len
+extent_len t x = block_extent t x.block
 
 -- each live block is routed, and takes up no more than a layer serves
 pub record AreMeasured (t : LayerModel) (table : List Named) : Type 0 where

@@ -1,5 +1,5 @@
 -- Names: the table of live blocks, in order of their names.
-use Rattle.std.specs.Prelude.{ℕ, ◌≡◌, ◌<◌, ◌≤◌, not, List, [], ◌∷◌, Option, Some, None, length, filter, slice_index_or, sum_by, nat_eq, nat_lt, if◌then◌else◌}
+use Rattle.std.specs.Prelude.{ℕ, ◌<◌, ◌≤◌, not, List, [], ◌∷◌, ◌++◌, Option, Some, None, length, map, filter, slice_index_or, sum_by, nat_eq, nat_lt, if◌then◌else◌}
 use Rattle.std.specs.Option.{unwrap_or}
 use Rattle.size_round.specs.Sizes.{limit}
 use Rattle.layer_rules.specs.declared.Block.{Block}
@@ -44,18 +44,16 @@ pub record IsTable (table : List Named) : Type 0 where
   pub most : length table ≤ most_live
   pub short : Each (λ (x : Named). x.block.len ≤ limit) table
 
--- a table in memory that has room for 65,536 blocks
+-- blocks put in order of their names
+abbrev pub in_order : List Named → List Named
+in_order [] = []
+in_order (x ∷ xs) = with_named x (in_order xs)
+
+-- the entries of a map as blocks under their names, and the others behind them
+abbrev pub together : (entries : List (ℕ × Block)) → (others : List Named) → List Named
+together entries others = map (λ e. named e.0 e.1) entries ++ others
+
+-- a table, and memory for all its blocks among the others
 pub record IsRoomy (table : List Named) (capacity : ℕ) : Type 0 where
   pub kept : IsTable table
   pub room : most_live ≤ capacity
-
--- the block at place i has the name
-pub record IsAt (table : List Named) (name i : ℕ) : Type 0 where
-  pub in_range : i < length table
-  pub has_name : name_at table i ≡ name
-
--- the name would go at place i: smaller names before it, and greater names from it on
-pub record IsGapFor (table : List Named) (name i : ℕ) : Type 0 where
-  pub in_range : i ≤ length table
-  pub smaller_before : (j : ℕ) → j < i → name_at table j < name
-  pub greater_after : (j : ℕ) → i ≤ j → j < length table → name < name_at table j

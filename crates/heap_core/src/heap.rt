@@ -1,8 +1,10 @@
 //! The heap: blocks of a root layer, by name.
-ghost use Rattle.std.specs.Prelude.{◌≡◌, ◌+◌, ◌-◌, ◌≤◌, length, min, nat_le, slice_range, option_map, is_some, true, IfOk, IfErr, OnErr, sum_by};
+ghost use Rattle.std.specs.Prelude.{◌≡◌, ◌+◌, ◌-◌, ◌≤◌, ◌<◌, ◌^◌, length, min, nat_le, slice_range, option_map, is_some, true, IfOk, IfErr, OnErr, sum_by};
 ghost use Rattle.std.specs.Borrow.{Lends, Array, sem, u8 as byte};
 ghost use Rattle.space_core.specs.contracts.Space.{the_row as the_space};
-ghost use Rattle.layer_rules.specs.Layering.{Stands, IsShut};
+ghost use Rattle.std.specs.HashMap.{values};
+ghost use Rattle.layer_rules.specs.Layering.{Stands, IsShut, IsRoutedIn};
+ghost use Rattle.layer_rules.specs.Rows.{Each};
 ghost use Rattle.layer_rules.specs.Blocks.{end_of};
 ghost use Rattle.space_core.specs.Memory.{IsMemory};
 ghost use Rattle.space_core.specs.Words.{filled, write_from};
@@ -17,6 +19,7 @@ use crate::{Answer, Call, CallFault, Named};
 use layer_core::{Asked, Block, Layer, Octets, Path};
 use space_core::Space;
 use std::alloc::Global;
+use std::collections::HashMap;
 use thiserror::Error;
 
 /// Why no heap was made.
@@ -42,7 +45,7 @@ pub struct Heap<L: Layer> {
 }
 
 impl<L: Layer> Heap<L> {
-    ghost use Rattle.heap_core.specs.Heap.{heap_model, heap_table, Begins, IsMakeFault, Performs, MayBegin, IsNewFault, AreMeasured, extent_len};
+    ghost use Rattle.heap_core.specs.Heap.{heap_model, heap_table, Begins, IsMakeFault, Performs, MayBegin, IsNewFault, AreMeasured, block_extent, extent_len};
 
     /// A heap with no block, over a root that stands closed in the Space. It opens the root.
     ///
@@ -154,11 +157,8 @@ impl<L: Layer> Heap<L> {
         requires { AreMeasured (heap_model L.model self.now) (heap_table self.now) }
         ensures { result ≡ sum_by (extent_len (heap_model L.model self.now)) (heap_table self.now) }
     {
-        let mut total = 0;
-        for named in self.table.entries() {
-            total += self.root.extent(named.block);
-        }
-        total
+        let (map, others) = self.table.parts();
+        self.extent_in_map(map) + self.extent_among(others)
     }
 
     /// The root layer.
@@ -174,6 +174,32 @@ impl<L: Layer> Heap<L> {
         ensures { result ≡ block_of (heap_table self.now) name }
     {
         self.block(name).unwrap()
+    }
+
+    // How many bytes the blocks of a map take up together where their routes end.
+    fn extent_in_map(&self, map: &HashMap<u32, Block>) -> u64
+        requires routed { Each (IsRoutedIn (heap_model L.model self.now)) (values map.now) }
+        requires fits { sum_by (block_extent (heap_model L.model self.now)) (values map.now) < 2 ^ 64 }
+        ensures { result ≡ sum_by (block_extent (heap_model L.model self.now)) (values map.now) }
+    {
+        let mut total = 0;
+        for block in map.values() {
+            total += self.root.extent(*block);
+        }
+        total
+    }
+
+    // How many bytes blocks take up together where their routes end.
+    fn extent_among(&self, others: &[Named]) -> u64
+        requires routed { Each (λ x. IsRoutedIn (heap_model L.model self.now) x.block) others.now }
+        requires fits { sum_by (extent_len (heap_model L.model self.now)) others.now < 2 ^ 64 }
+        ensures { result ≡ sum_by (extent_len (heap_model L.model self.now)) others.now }
+    {
+        let mut total = 0;
+        for named in others {
+            total += self.root.extent(named.block);
+        }
+        total
     }
 
     // A block under a new name.

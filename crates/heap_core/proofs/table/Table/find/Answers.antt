@@ -1,16 +1,18 @@
-use Rattle.std.proofs.Common.{sym, subst, arith}
-use Rattle.std.proofs.lemmas.List.{get_or_default}
-use Rattle.heap_core.specs.Names.{IsTable}
-use Rattle.heap_core.proofs.NameLemmas.{past_end, found_at, found_in_gap}
+use Rattle.std.proofs.Common.{◌≡◌, Some, None, nat_eq, refl, sym, ◌∙◌}
+use Rattle.std.specs.Map.{lookup}
+use Rattle.heap_core.proofs.TableLemmas.{named-parts}
 use Rattle.heap_core.proofs.table.Table.find.Goals as goal
 
--- the name is at its place, and the block there is the one that was read
-pub returns-in-Ok-clause-block : goal.returns-in-Ok-clause-block
-returns-in-Ok-clause-block c =
-    let found = found_at _ _ _ (subst IsTable c.self.view_is c.self.invariant.kept).rising c.in-Ok.ensures.found in
-    let read = get_or_default _ _ c.index.result.now past_end c.in-Ok.ensures.found.in_range in
-    grind (arith, c.self.view_is)
+-- the map has the name
+pub returns-in-Some-clause-block : goal.returns-in-Some-clause-block
+returns-in-Some-clause-block c =
+    let es = c.self.inside.map.entries in
+    let here : lookup (nat_eq c.args.name) es ≡ Some c.in-Some.block.now = sym c.in-Some.ensures.value in
+    rw (← c.self.view_is) (sym (named-parts es c.self.inside.others.items c.self.invariant.kept c.args.name ∙ rw here refl))
 
--- the name is not there
-pub returns-in-Err-clause-block : goal.returns-in-Err-clause-block
-returns-in-Err-clause-block c = sym (found_in_gap _ _ _ c.in-Err.ensures.absent)
+-- it doesn't, so the others say
+pub returns-in-None-clause-block : goal.returns-in-None-clause-block
+returns-in-None-clause-block c =
+    let es = c.self.inside.map.entries in
+    let here : lookup (nat_eq c.args.name) es ≡ None = sym c.in-None.ensures.value in
+    rw (← c.self.view_is, c.find_among.ensures, c.deref.ensures.value) (sym (named-parts es c.self.inside.others.items c.self.invariant.kept c.args.name ∙ rw here refl))
