@@ -2,7 +2,7 @@
 //! the command line say. All output goes to standard output.
 #![tactic(auto)]
 
-use play_core::run;
+use play_core::{Status, run};
 use source_sink::{StdSink, StdSource};
 use space_core::Space;
 use std::process::ExitCode;
@@ -22,7 +22,9 @@ fn main(rt: HostRuntime) -> ExitCode {
         return ExitCode::from(WORDS_REFUSED);
     };
     let mut source = StdSource::new(rt.stdin());
-    let mut sink = StdSink::new(rt.stdout());
+    let Ok(mut sink) = StdSink::new(rt.alloc(), rt.stdout()) else {
+        return ExitCode::from(Status::NoMemory.code());
+    };
     let mut space = Space::closed();
     let status = run(
         rt.alloc(),

@@ -1,8 +1,9 @@
 -- How far bytes lead, and what is told after them.
-use Rattle.std.proofs.Common.{◌≡◌, ℕ, ◌+◌, ◌≤◌, ◌<◌, Bool, true, false, nat_eq, nat_lt, List, [], ◌∷◌, ◌++◌, length, take, drop, get_or, Option, Some, None, refl, sym, ap, ◌∙◌, subst, append_assoc, append-nil, arith, length-append, cond}
+use Rattle.std.proofs.Common.{◌≡◌, ℕ, ◌+◌, ◌-◌, ◌≤◌, ◌<◌, Bool, true, false, nat_eq, nat_lt, List, [], ◌∷◌, ◌++◌, length, take, drop, get_or, Option, Some, None, refl, sym, ap, ◌∙◌, subst, append_assoc, append-nil, arith, length-append, cond}
 use Rattle.std.proofs.lemmas.Bool.Decides.{nat_tests}
-use Rattle.std.proofs.lemmas.List.{take-append-drop, take_more}
+use Rattle.std.proofs.lemmas.List.{length-drop, length-take, take-append-drop, take_rest}
 use Rattle.std.proofs.lemmas.List.Concat.{flat_map-append}
+use Rattle.std.proofs.Math.Seq.{take-add}
 use Rattle.layer_rules.specs.Rules.{Rules}
 use Rattle.heap_core.specs.declared.Call.{Call}
 use Rattle.heap_core.specs.declared.Answer.{Answer}
@@ -17,9 +18,10 @@ use Rattle.play_core.specs.Devices.{Writing, PutsAll}
 use Rattle.play_core.specs.Lines.{lines_of, IsOpen, joined}
 use Rattle.play_core.specs.Outcome.{Outcome, Answers, Silent, Stops, outcome, read_outcome}
 use Rattle.play_core.specs.Told.{Told, Piece, answers_on, answer_piece, line_piece, told_on, told_from, after, stopped, text_of, BreaksOff}
-use Rattle.play_core.specs.Place.{Place, Leads, told_at, fed, fed_place}
-use Rattle.play_core.specs.Ends.{Quiet, ByteStepped, AnswerPut, StopPut, Fed}
-use Rattle.play_core.proofs.PutLemmas.{puts_more, fails_more, puts_none_at}
+use Rattle.play_core.specs.declared.reader.Reader.{Reader}
+use Rattle.play_core.specs.Place.{Place, BeginsLine, Leads, told_at, place_of, fed, fed_place}
+use Rattle.play_core.specs.Ends.{Quiet, ByteStepped, Stepped, AnswerPut, StopPut, Fed}
+use Rattle.play_core.proofs.PutLemmas.{puts_none, puts_more, fails_more, puts_none_at}
 use Rattle.play_core.proofs.LineFacts.{lines_joined, joined-append, whole_append, open_more, lines_begin, lines_whole}
 use Rattle.play_core.proofs.Answered.{told_answers, answers_append, some_same}
 use Rattle.play_core.proofs.Outcomes.{out_whole, out_long, out_much}
@@ -241,7 +243,7 @@ by_outcome e p b (Some (Answers call answer next)) now old new q end is opened s
 by_outcome e p b (Some (Stops fault)) now old new q end is opened short h place at = stops_fed e p b fault now old new q end opened short is h.0 h.1 at
 
 -- one byte
-fed_byte : (e : Rules) (p : Place) (b : ℕ) (old new : Writing) (q : Place) (end : Step) → IsOpen p.begun → length p.begun ≤ 256 → ByteStepped (fed e p b) p.number p.run q.run old new end → (end ≡ step.Goes → q ≡ fed_place p b q.run) → Fed e p (b ∷ []) q old new end
+pub fed_byte : (e : Rules) (p : Place) (b : ℕ) (old new : Writing) (q : Place) (end : Step) → IsOpen p.begun → length p.begun ≤ 256 → ByteStepped (fed e p b) p.number p.run q.run old new end → (end ≡ step.Goes → q ≡ fed_place p b q.run) → Fed e p (b ∷ []) q old new end
 fed_byte e p b old new q end opened short h place = by_outcome e p b (fed e p b) q.run old new q end refl opened short h place refl
 
 -- none yet
@@ -269,13 +271,69 @@ fed_front e p q a b old new step.Goes n h = absurd (n refl)
 fed_front e p q a b old new step.Stops n h = (h.0, h.1, λ rest. ap (told_at e p) (append_assoc a b rest) ∙ h.2 (b ++ rest))
 fed_front e p q a b old new step.SinkFailed n h = (h.0, h.1, λ rest. subst (λ xs. BreaksOff (told_at e p xs) h.0 q.run) (sym (append_assoc a b rest)) (h.2 (b ++ rest)))
 
--- one byte more, on a heap whose shape stays
-pub feed_turn : (e f : Rules) (p q r : Place) (bytes : List ℕ) (i b : ℕ) (old mid new : Writing) (end : Step) → f ≡ e → i < length bytes → b ≡ get_or bytes i 0 → Fed e p (take i bytes) q old mid step.Goes
-    → ByteStepped (fed f q b) q.number q.run r.run mid new end → (end ≡ step.Goes → r ≡ fed_place q b r.run) → Fed e p (take (i + 1) bytes) r old new end
-feed_turn e f p q r bytes i b old mid new end same h is k s place =
-    let t : take i bytes ++ b ∷ [] ≡ take (i + 1) bytes = ap (λ c. take i bytes ++ c ∷ []) is ∙ sym (take_more bytes i 0 h) in
-    let s' : ByteStepped (fed e q b) q.number q.run r.run mid new end = subst (λ g. ByteStepped (fed g q b) q.number q.run r.run mid new end) same s in
-    subst (λ xs. Fed e p xs r old new end) t (fed_then e p q r (take i bytes) (b ∷ []) old mid new end k (fed_byte e q b mid new r end k.2.cut.open_rest k.2.short s' place))
+-- the first byte of some
+pub feed_first : (e : Rules) (p r : Place) (bytes : List ℕ) (b : ℕ) (old new : Writing) (end : Step) → 0 < length bytes → b ≡ get_or bytes 0 0 → IsOpen p.begun → length p.begun ≤ 256
+    → ByteStepped (fed e p b) p.number p.run r.run old new end → (end ≡ step.Goes → r ≡ fed_place p b r.run) → Fed e p (take 1 bytes) r old new end
+feed_first e p r [] b old new end some is opened short h place = absurd (omega arith)
+feed_first e p r (x ∷ bytes) b old new end some is opened short h place = subst (λ c. Fed e p (c ∷ []) r old new end) is (fed_byte e p b old new r end opened short h place)
+
+-- a place where all bytes of a line have come
+abbrev Begun : Place → (line : List ℕ) → Place
+Begun p line = record { number = p.number; before = p.before; begun = line; run = p.run }
+
+leads_begun : (e : Rules) (p : Place) (line : List ℕ) → p.begun ≡ [] → IsOpen line → length line ≤ 256 → Leads e p line [] (Begun p line)
+leads_begun e p line fresh opened short = record {
+  lines = [];
+  cut = record { all = ap (λ xs. xs ++ line) fresh; whole = tt; open_rest = opened };
+  answers = refl;
+  number = omega arith;
+  before = omega arith;
+  short = short;
+}
+
+-- what the newline behind it does
+fed_end : (e : Rules) (p : Place) (line : List ℕ) → p.before + length line + 1 ≤ 16777216 → fed e (Begun p line) 10 ≡ Some (read_outcome e p.run (line_call line))
+unfolding fed
+fed_end e p line within =
+    let t : nat_lt 16777216 (p.before + length line + 1) ≡ false = grind (arith, nat_tests) in
+    rw t refl
+
+-- a line and its newline at once
+line_fed : (e : Rules) (p q : Place) (line : List ℕ) (old new : Writing) (end : Step) → p.begun ≡ [] → IsOpen line → length line ≤ 256 → p.before + length line + 1 ≤ 16777216
+    → Stepped (read_outcome e p.run (line_call line)) p.number p.run q.run old new end → (end ≡ step.Goes → q ≡ record { number = p.number + 1; before = p.before + length line + 1; begun = []; run = q.run })
+    → Fed e p (line ++ 10 ∷ []) q old new end
+unfolding fed_place
+line_fed e p q line old new end fresh opened short within h place =
+    fed_then e p (Begun p line) q line (10 ∷ []) old old new end ([], puts_none old, leads_begun e p line fresh opened short)
+    (by_outcome e (Begun p line) 10 (Some (read_outcome e p.run (line_call line))) q.run old new q end (fed_end e p line within) opened short h place refl)
+
+-- the line with which some bytes begin
+pub feed_line : (e : Rules) (p q : Place) (reader : Reader) (bytes line : List ℕ) (old new : Writing) (end : Step) → BeginsLine reader bytes line → p.begun ≡ reader.begun.items → p.before ≡ reader.before
+    → Stepped (read_outcome e p.run (line_call line)) p.number p.run q.run old new end → (end ≡ step.Goes → q ≡ record { number = p.number + 1; before = p.before + length line + 1; begun = []; run = q.run })
+    → Fed e p (take (length line + 1) bytes) q old new end
+feed_line e p q reader bytes line old new end begins begun before h place =
+    subst (λ xs. Fed e p xs q old new end) (sym begins.first) (line_fed e p q line old new end (begun ∙ begins.fresh) begins.is_open begins.short (omega (arith, before, begins.within)) h place)
+
+-- that line is no longer than the bytes
+pub begins_within : (reader : Reader) (bytes line : List ℕ) → BeginsLine reader bytes line → length line + 1 ≤ length bytes
+begins_within reader bytes line begins = omega (arith, ap length begins.first, length-append line (10 ∷ []), length-take (length line + 1) bytes)
+
+-- where a reader is behind a line
+pub place_behind : (reader : Reader) (number before : ℕ) (run : Run) → reader.number ≡ number → reader.before ≡ before → reader.begun.items ≡ []
+    → place_of reader run ≡ record { number = number; before = before; begun = []; run = run }
+place_behind reader number before run n b l = cc
+
+-- how many bytes are left
+pub length_left : (bytes : List ℕ) (i : ℕ) → length (take (length bytes - i) (drop i bytes)) ≡ length bytes - i
+length_left bytes i = ap length (take_rest bytes i) ∙ length-drop i bytes
+
+-- bytes behind others, on a heap whose shape stays
+pub feed_turn : (e f : Rules) (p q r : Place) (bytes : List ℕ) (i n : ℕ) (old mid new : Writing) (s end : Step) → f ≡ e → Fed e p (take i bytes) q old mid step.Goes
+    → Fed f q (take n (take (length bytes - i) (drop i bytes))) r mid new s → s ≡ end → Fed e p (take (i + n) bytes) r old new end
+feed_turn e f p q r bytes i n old mid new s end same h k is =
+    let k' : Fed f q (take n (drop i bytes)) r mid new end = subst (λ t. Fed f q (take n (drop i bytes)) r mid new t) is (subst (λ xs. Fed f q (take n xs) r mid new s) (take_rest bytes i) k) in
+    let k'' : Fed e q (take n (drop i bytes)) r mid new end = subst (λ g. Fed g q (take n (drop i bytes)) r mid new end) same k' in
+    subst (λ xs. Fed e p xs r old new end) (sym (take-add i n bytes)) (fed_then e p q r (take i bytes) (take n (drop i bytes)) old mid new end h k'')
 
 -- what ended the run within the bytes
 pub feed_stop : (e : Rules) (p r : Place) (bytes : List ℕ) (n : ℕ) (old new : Writing) (end : Step) → (end ≡ step.Goes → ⊥) → Fed e p (take n bytes) r old new end → Fed e p bytes r old new end

@@ -6,6 +6,7 @@ pub mod Answered
 pub mod Going
 pub mod ReportLemmas
 pub mod Running
+pub mod HandingOn
 pub mod Whole
 pub mod Asking
 pub mod Tells

@@ -1,6 +1,9 @@
 -- Lines, their bodies, and what stands before them.
-use Rattle.std.proofs.Common.{◌≡◌, ℕ, Bool, true, false, List, [], ◌∷◌, ◌++◌, refl, sym, ap, ◌∙◌, append_assoc, arith, nat_eq}
-use Rattle.std.specs.List.{AllByRecursion}
+use Rattle.std.proofs.Common.{◌≡◌, ℕ, zero, suc, ◌+◌, ◌≤◌, ◌<◌, Bool, true, false, Some, List, [], ◌∷◌, ◌++◌, length, take, get_or, refl, sym, ap, ◌∙◌, append_assoc, arith, nat_eq}
+use Rattle.std.proofs.lemmas.Bool.Decides.{nat_tests}
+use Rattle.std.proofs.lemmas.List.{length-take-le, take_more}
+use Rattle.std.proofs.lemmas.List.Quantifiers.{position-Some}
+use Rattle.std.specs.List.{AllByRecursion, position}
 use Rattle.play_core.specs.Lines.{lines_of, onto_first, body_of, IsOpen, IsWhole, joined}
 
 pub open_more : (xs : List ℕ) (b : ℕ) → IsOpen xs → nat_eq b 10 ≡ false → IsOpen (xs ++ b ∷ [])
@@ -56,3 +59,27 @@ joined-append (x ∷ xs) ys = ap (λ zs. x ++ zs) (joined-append xs ys) ∙ sym 
 pub whole_append : (xs ys : List (List ℕ)) → AllByRecursion IsWhole xs → AllByRecursion IsWhole ys → AllByRecursion IsWhole (xs ++ ys)
 whole_append [] ys h k = k
 whole_append (x ∷ xs) ys h k = (h.0, whole_append xs ys h.1 k)
+
+-- ---- the first line of some bytes
+
+open_front : (n : ℕ) (bytes : List ℕ) → n ≤ length bytes → ((k : ℕ) → k < n → nat_eq (get_or bytes k 0) 10 ≡ false) → IsOpen (take n bytes)
+open_front zero bytes within all = tt
+open_front (suc n) [] within all = absurd (omega arith)
+open_front (suc n) (b ∷ bs) within all = (all 0 (omega arith), open_front n bs (omega arith) (λ k lt. all (suc k) (omega arith)))
+
+-- the bytes in front of the first newline, so many, are a line
+pub record EndsAt (bytes : List ℕ) (len : ℕ) : Type 0 where
+  pub is_open : IsOpen (take len bytes)
+  pub first : take (length (take len bytes) + 1) bytes ≡ take len bytes ++ 10 ∷ []
+  pub len_is : length (take len bytes) ≡ len
+
+pub first_line : (bytes : List ℕ) (len : ℕ) → position (λ byte. nat_eq byte 10) bytes ≡ Some len → EndsAt bytes len
+first_line bytes len at =
+    let p = position-Some (λ byte. nat_eq byte 10) bytes len 0 at in
+    let len_is : length (take len bytes) ≡ len = length-take-le len bytes (omega (arith, p.0)) in
+    let newline : get_or bytes len 0 ≡ 10 = grind (arith, nat_tests, p.1) in
+    record {
+      is_open = open_front len bytes (omega (arith, p.0)) p.2;
+      first = rw (len_is, take_more bytes len 0 p.0, newline) refl;
+      len_is = len_is;
+    }

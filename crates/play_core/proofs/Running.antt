@@ -1,5 +1,5 @@
 -- What holds while a source is read, and at its end.
-use Rattle.std.proofs.Common.{◌≡◌, ℕ, ◌+◌, ◌-◌, ◌≤◌, ◌<◌, Bool, true, false, List, [], ◌∷◌, ◌++◌, length, take, Option, Some, None, append-nil, append_assoc, sym, ap, ◌∙◌, subst, refl, arith, length-append, length-take, min, nat_eq}
+use Rattle.std.proofs.Common.{◌≡◌, inl, inr, ℕ, ◌+◌, ◌-◌, ◌≤◌, ◌<◌, Bool, true, false, List, [], ◌∷◌, ◌++◌, length, take, Option, Some, None, append-nil, append_assoc, sym, ap, ◌∙◌, subst, refl, arith, length-append, length-take, min, nat_eq}
 use Rattle.std.proofs.lemmas.Bool.Decides.{nat_tests}
 use Rattle.std.proofs.lemmas.List.Concat.{flat_map-append}
 use Rattle.layer_rules.specs.Rules.{Rules}
@@ -11,16 +11,17 @@ use Rattle.play_core.specs.declared.Status.{Status}
 use Rattle.play_core.specs.declared.Status.TheVariants.{Good, Usage, Expression, Trace, ReadFault, WriteFault, OpeningRefused, NoMemory}
 use Rattle.play_core.specs.declared.reader.Reader.{Reader}
 use Rattle.play_core.specs.declared.Step.{Step}
-use Rattle.play_core.specs.Devices.{Writing, Reading, PutsAll, Took, MayBe}
+use Rattle.play_core.specs.Devices.{Writing, Reading, PutsAll, Fails, Took, MayBe}
 use Rattle.play_core.specs.Lines.{IsOpen, lines_of, joined}
 use Rattle.play_core.specs.Outcome.{Outcome, Answers, Silent, Stops, read_outcome}
 use Rattle.play_core.specs.Told.{Told, Piece, answer_piece, line_piece, told, told_from, told_on, after, stopped, reported, text_of, BreaksOff}
 use Rattle.play_core.specs.Place.{Place, start_of, told_at, place_of}
 use Rattle.play_core.specs.Ends.{Fed, Stepped, Lasts, Finishes}
 use Rattle.play_core.specs.Ran.{Ran}
-use Rattle.play_core.proofs.PutLemmas.{puts_none, puts_none_at, puts_more, fails_more}
+use Rattle.play_core.proofs.PutLemmas.{puts_none, puts_none_at, puts_more, fails_more, fails_behind, writing_same}
 use Rattle.play_core.proofs.LineFacts.{lines_open}
 use Rattle.play_core.proofs.Outcomes.{out_last}
+use Rattle.play_core.proofs.Answered.{answers_end}
 use Rattle.play_core.proofs.Going.{told_leads, breaks_first, breaks_after, breaks_more, fed_then, fed_none}
 use Rattle.play_core.specs.declared.Step.TheVariants as step
 
@@ -143,6 +144,27 @@ going_far e s r r' w w' q h = let far : 0 + 0 + length h.bytes ≡ q.before + le
 going_few : (e : Rules) (s : Run) (r r' : Reading) (w w' : Writing) (q : Place) (b : List ℕ) (h : Going e s r r' w w' q) → length b ≤ 16777217 - (q.before + length q.begun) → q.before + length q.begun ≤ 16777216 → length (h.bytes ++ b) ≤ 16777217
 going_few e s r r' w w' q b h few within = omega (arith, going_far e s r r' w w' q h, length-append h.bytes b, few, within)
 
+-- what was put was handed on
+pub going_on : (e : Rules) (s : Run) (r r' : Reading) (w w' w'' : Writing) (q : Place) → Going e s r r' w w' q → w''.holds ≡ w'.holds → w''.faults ≡ w'.faults → Going e s r r' w w'' q
+going_on e s r r' w w' w'' q h a b = subst (λ (x : Writing). Going e s r r' w x q) (sym (writing_same w' w'' a b)) h
+
+-- the sink failed to hand on what was put
+pub going_waits : (e : Rules) (s : Run) (r r' : Reading) (w w' w'' : Writing) (q : Place) → Going e s r r' w w' q → Fails w' w'' [] → q.before + length q.begun ≤ 16777216 → Ran e s q.run r r' w w'' WriteFault
+going_waits e s r r' w w' w'' q h f within = record {
+  bytes = h.bytes;
+  text = text_of h.fed.0;
+  taken = record { taken = h.taken; counted = h.counted; at_end = λ x. absurd (let y : true ≡ false = sym x ∙ h.opened in cc) };
+  few = omega (arith, going_far e s r r' w w' q h, within);
+  failed = fails_behind w w' w'' _ h.fed.1 f;
+  tells = λ input m. let k = begun_by r'.finished h.bytes input h.opened m in inr (record {
+    front = h.fed.0;
+    back = (told_at e q k.0).pieces;
+    pieces = ap (λ (xs : List ℕ). (told e s xs).pieces) k.1 ∙ ap (λ (t : Told). t.pieces) (told_leads e (start_of s) q h.bytes k.0 h.fed.0 h.fed.2);
+    text_is = refl;
+    run_is = answers_end e h.fed.2.lines 0 s q.run h.fed.0 h.fed.2.answers;
+  });
+}
+
 -- a line was in fault
 pub going_stops : (e : Rules) (s : Run) (r r' r'' : Reading) (w w' w'' : Writing) (p q : Place) (b : List ℕ) → Going e s r r' w w' p → Takes r'.left r''.left b → r''.faults ≡ r'.faults → r''.finished ≡ false → length b ≤ 16777217 - (p.before + length p.begun) → p.before + length p.begun ≤ 16777216 → Fed e p b q w' w'' step.Stops → Ran e s q.run r r'' w w'' Trace
 going_stops e s r r' r'' w w' w'' p q b h t c i few within f =
@@ -166,7 +188,7 @@ going_breaks e s r r' r'' w w' w'' p q b h t c i few within f =
       taken = record { taken = takes_more r.left r'.left r''.left h.bytes b h.taken t; counted = c ∙ h.counted; at_end = λ x. absurd (let y : true ≡ false = sym x ∙ i in cc) };
       few = going_few e s r r' w w' p b h few within;
       failed = g.1;
-      tells = λ input m. let k = begun_by r''.finished (h.bytes ++ b) input i m in subst (λ xs. BreaksOff (told e s xs) g.0 q.run) (sym k.1) (g.2 k.0);
+      tells = λ input m. let k = begun_by r''.finished (h.bytes ++ b) input i m in inl (subst (λ xs. BreaksOff (told e s xs) g.0 q.run) (sym k.1) (g.2 k.0));
     }
 
 still_at_end : (a b : Option (List ℕ)) → Takes a b [] → IsAtEnd a → IsAtEnd b
@@ -189,6 +211,7 @@ going_ends e s t r r' r'' w w' w'' q Good h x z c i within f = record {
   pieces = h.fed.0 ++ f.0;
   taken = end_took e s r r' r'' w w' q h x z c;
   ended = i;
+  few = omega (arith, going_far e s r r' w w' q h, within);
   put = subst (λ xs. PutsAll w w'' xs) (sym (flat_map-append (λ (x : Piece). x.text) h.fed.0 f.0)) (puts_more w w' w'' _ _ h.fed.1 f.1);
   tells = ap (told e s) (sym (append-nil h.bytes)) ∙ told_leads e (start_of s) q h.bytes [] h.fed.0 h.fed.2 ∙ ap (after h.fed.0) f.2;
 }
@@ -206,7 +229,7 @@ going_ends e s t r r' r'' w w' w'' q WriteFault h x z c i within f = record {
   taken = end_took e s r r' r'' w w' q h x z c;
   few = omega (arith, going_far e s r r' w w' q h, within);
   failed = fails_more w w' w'' _ _ h.fed.1 f.1;
-  tells = λ input m. subst (λ xs. BreaksOff (told e s xs) (text_of h.fed.0 ++ f.0) t) (append-nil h.bytes ∙ sym (whole_by r''.finished h.bytes input i m)) (breaks_after e (start_of s) q h.bytes [] h.fed.0 f.0 t h.fed.2 f.2);
+  tells = λ input m. inl (subst (λ xs. BreaksOff (told e s xs) (text_of h.fed.0 ++ f.0) t) (append-nil h.bytes ∙ sym (whole_by r''.finished h.bytes input i m)) (breaks_after e (start_of s) q h.bytes [] h.fed.0 f.0 t h.fed.2 f.2));
 }
 going_ends e s t r r' r'' w w' w'' q Usage h x z c i within f = absurd f
 going_ends e s t r r' r'' w w' w'' q Expression h x z c i within f = absurd f

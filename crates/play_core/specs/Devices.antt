@@ -36,6 +36,10 @@ pub record Fails (old new : Writing) (text : List ℕ) : Type 0 where
 abbrev pub PutsPart : (old new : Writing) (text : List ℕ) → Type 0
 PutsPart old new text = (count : ℕ) × (count < length text) × Fails old new (take count text)
 
+-- the sink failed within the text, or behind all of it
+abbrev pub PutsUpTo : (old new : Writing) (text : List ℕ) → Type 0
+PutsUpTo old new text = (count : ℕ) × (count ≤ length text) × Fails old new (take count text)
+
 -- these bytes were taken, with no fault, and nothing is left if that was all
 pub record Took (old new : Reading) (bytes : List ℕ) : Type 0 where
   pub taken : Takes old.left new.left bytes

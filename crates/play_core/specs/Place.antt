@@ -1,12 +1,12 @@
 -- Place: how far a trace has come.
-use Rattle.std.specs.Prelude.{◌≡◌, ℕ, ◌+◌, ◌≤◌, List, ◌∷◌, [], ◌++◌, length, Option, Some, None, nat_eq, nat_lt, if◌then◌else◌}
+use Rattle.std.specs.Prelude.{◌≡◌, ℕ, ◌+◌, ◌≤◌, List, ◌∷◌, [], ◌++◌, length, take, Option, Some, None, nat_eq, nat_lt, if◌then◌else◌}
 use Rattle.layer_rules.specs.Rules.{Rules}
 use Rattle.heap_core.specs.Performing.{Run}
 use Rattle.trace_text.specs.declared.LineFault.TheVariants.{TooLong}
 use Rattle.trace_text.specs.declared.TraceFault.TheVariants.{Line as LineIn, TooMuchInput}
 use Rattle.trace_text.specs.Grammar.{line_call, most_bytes}
 use Rattle.play_core.specs.declared.reader.Reader.{Reader}
-use Rattle.play_core.specs.Lines.{Cut, joined, lines_of}
+use Rattle.play_core.specs.Lines.{Cut, IsOpen, joined, lines_of}
 use Rattle.play_core.specs.Outcome.{Outcome, Stops, most_input, read_outcome}
 use Rattle.play_core.specs.Told.{Told, Piece, told_from, answers_from}
 
@@ -50,3 +50,12 @@ unfoldable pub fed_place : Place → (byte : ℕ) → (next : Run) → Place
 fed_place p b next =
     if nat_eq b 10 then record { number = p.number + 1; before = p.before + length p.begun + 1; begun = []; run = next } else
     record { number = p.number; before = p.before; begun = p.begun ++ b ∷ []; run = next }
+
+-- The bytes begin with this line and its newline, and it can be taken at once: no byte of it was taken before, and neither the line nor
+-- the input is too long with it.
+pub record BeginsLine (reader : Reader) (bytes line : List ℕ) : Type 0 where
+  pub first : take (length line + 1) bytes ≡ line ++ 10 ∷ []
+  pub is_open : IsOpen line
+  pub fresh : reader.begun.items ≡ []
+  pub short : length line ≤ most_bytes
+  pub within : reader.before + length line + 1 ≤ most_input

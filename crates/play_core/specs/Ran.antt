@@ -1,5 +1,5 @@
 -- Ran: what the run of a whole trace did, by its status.
-use Rattle.std.specs.Prelude.{◌≡◌, ℕ, ◌+◌, ◌≤◌, true, List, Some, length}
+use Rattle.std.specs.Prelude.{◌≡◌, ◌⊎◌, ℕ, ◌+◌, ◌≤◌, true, List, Some, length}
 use Rattle.layer_rules.specs.Rules.{Rules}
 use Rattle.heap_core.specs.Performing.{Run}
 use Rattle.play_core.specs.declared.Status.{Status}
@@ -8,7 +8,7 @@ use Rattle.play_core.specs.Devices.{Reading, Writing, PutsAll, Fails, Took, Read
 use Rattle.play_core.specs.Lines.{Cut}
 use Rattle.trace_text.specs.Grammar.{most_bytes}
 use Rattle.play_core.specs.Outcome.{most_input}
-use Rattle.play_core.specs.Told.{Piece, BreaksOff, text_of, told, answers_from}
+use Rattle.play_core.specs.Told.{Piece, BreaksOff, EndsBehind, text_of, told, answers_from}
 
 -- The pieces answer the lines that are whole in these bytes, of which none is in fault. What follows isn't too long yet, and neither is
 -- the input.
@@ -26,6 +26,7 @@ pub record Completed (root : Rules) (run now : Run) (r r' : Reading) (w w' : Wri
   pub pieces : List Piece
   pub taken : Took r r' bytes
   pub ended : r'.finished ≡ true
+  pub few : length bytes ≤ most_input
   pub put : PutsAll w w' (text_of pieces)
   pub tells : told root run bytes ≡ record { status = Good; pieces = pieces; run = now }
 
@@ -47,14 +48,14 @@ pub record CutShort (root : Rules) (run now : Run) (r r' : Reading) (w w' : Writ
   pub put : PutsAll w w' (text_of pieces)
   pub answers : AnswersWhole root run bytes pieces now
 
--- the sink failed: whatever the rest of the input is, a part of what it is told was written
+-- the sink failed: whatever the rest of the input is, a part of what it is told was written, up to within a piece or behind one
 pub record BrokenOff (root : Rules) (run now : Run) (r r' : Reading) (w w' : Writing) : Type 0 where
   pub bytes : List ℕ
   pub text : List ℕ
   pub taken : Took r r' bytes
   pub few : length bytes ≤ most_input + 1
   pub failed : Fails w w' text
-  pub tells : (input : List ℕ) → MayBe r'.finished bytes input → BreaksOff (told root run input) text now
+  pub tells : (input : List ℕ) → MayBe r'.finished bytes input → BreaksOff (told root run input) text now ⊎ EndsBehind run (told root run input) text now
 
 -- what a trace did that led from one run to another, by its status
 abbrev pub Ran : Rules → (run now : Run) (r r' : Reading) (w w' : Writing) → Status → Type 0

@@ -13,7 +13,7 @@ use Rattle.play_core.specs.declared.Status.{Status}
 use Rattle.play_core.specs.declared.Status.TheVariants.{Good, Usage, Expression, WriteFault, OpeningRefused, NoMemory}
 use Rattle.play_core.specs.Asked.{Asked, Nothing, Refused, Checks, Replays, root_of, opening_of}
 use Rattle.play_core.specs.CheckText.{check_text}
-use Rattle.play_core.specs.Devices.{Reading, Writing, PutsAll, PutsPart}
+use Rattle.play_core.specs.Devices.{Reading, Writing, PutsAll, PutsUpTo, Fails}
 use Rattle.play_core.specs.Ran.{Ran}
 use Rattle.play_core.specs.Telling.{Telling, Only, Plays, usage_text, expression_text, refused_text}
 use Rattle.play_core.specs.Told.{text_of}
@@ -30,9 +30,13 @@ pub record Leaves (root : Rules) (run : Run) (m : Memory) : Type 0 where
   pub held : Held model table m
   pub run_is : run_in model table m ≡ run
 
--- one text was written with this status, or the sink failed within it
+-- what was put was handed on, and the status stays, or the sink failed
+abbrev pub HandsOn : Status → (w w' : Writing) (end : Status) → Type 0
+HandsOn status w w' end = ((end ≡ status) × (w' ≡ w)) ⊎ ((end ≡ WriteFault) × Fails w w' [])
+
+-- one text was written with this status, or the sink failed within it or behind it
 abbrev pub TextPut : Status → (text : List ℕ) (w w' : Writing) (end : Status) → Type 0
-TextPut status text w w' end = ((end ≡ status) × PutsAll w w' text) ⊎ ((end ≡ WriteFault) × PutsPart w w' text)
+TextPut status text w w' end = ((end ≡ status) × PutsAll w w' text) ⊎ ((end ≡ WriteFault) × PutsUpTo w w' text)
 
 -- one text, and nothing was read and no cell taken
 pub record SaysOnly (status : Status) (text : List ℕ) (r r' : Reading) (w w' : Writing) (m : Memory) (end : Status) : Type 0 where

@@ -84,6 +84,19 @@ answers_from root before run [] = Some ([], run)
 answers_from root before run (line ∷ lines) =
     answers_on run (outcome root before run line) (λ next. answers_from root (before + length line) next lines)
 
+-- the run that stands behind these pieces: that of the last, or the start where there is none
+abbrev pub run_after : (start : Run) → List Piece → Run
+run_after start [] = start
+run_after start (piece ∷ pieces) = run_after piece.run pieces
+
+-- The text ends behind some of the pieces, and this run stands there.
+pub record EndsBehind (start : Run) (t : Told) (text : List ℕ) (run : Run) : Type 0 where
+  pub front : List Piece
+  pub back : List Piece
+  pub pieces : t.pieces ≡ front ++ back
+  pub text_is : text ≡ text_of front
+  pub run_is : run ≡ run_after start front
+
 -- The text breaks off within a piece, and this run stands when that piece is put.
 pub record BreaksOff (t : Told) (text : List ℕ) (run : Run) : Type 0 where
   pub front : List Piece

@@ -1,9 +1,10 @@
 // One line, and one byte.
-ghost use Rattle.std.specs.Prelude.{◌≡◌, Ok, Some};
+ghost use Rattle.std.specs.Prelude.{◌≡◌, ◌<◌, ◌≤◌, Ok, Some, length, take};
 ghost use Rattle.heap_core.specs.Performing.{IsCall};
 ghost use Rattle.trace_text.specs.Grammar.{line_call};
 ghost use Rattle.play_core.specs.Devices.{writing};
-ghost use Rattle.play_core.specs.Ends.{run_at, rules_at, HeldAt, ByteStepped, Stepped};
+ghost use Rattle.play_core.specs.Ends.{run_at, rules_at, HeldAt, ByteStepped, Fed, Stepped};
+ghost use Rattle.play_core.specs.Lines.{IsOpen};
 ghost use Rattle.play_core.specs.Outcome.{read_outcome};
 ghost use Rattle.play_core.specs.Place.{fed, fed_place, place_of};
 
@@ -14,13 +15,14 @@ use heap_core::{Call, Heap};
 use layer_core::Layer;
 use source_sink::Sink;
 use space_core::Space;
-use trace_text::{LineFault, TraceFault, answer_line, read_line};
+use trace_text::{Line, LineFault, TraceFault, answer_line, read_line};
 
-// Performs one call, and puts its answer.
+// Performs one call, and puts its answer, which is formed in the line that is lent.
 fn perform_call<L: Layer, K: Sink>(
     heap: &mut Heap<L>,
     space: &mut Space,
     sink: &mut K,
+    line: &mut Line,
     number: u64,
     call: &Call,
 ) -> Step
@@ -34,7 +36,8 @@ fn perform_call<L: Layer, K: Sink>(
 {
     match heap.perform(space, call) {
         Ok(answer) => {
-            match put_all(sink, answer_line(call, &answer).as_str().as_bytes(), space) {
+            answer_line(line, call, &answer);
+            match put_all(sink, line.as_str().as_bytes(), space) {
                 Ok(()) => Step::Goes,
                 Err(_) => Step::SinkFailed,
             }
@@ -43,11 +46,12 @@ fn perform_call<L: Layer, K: Sink>(
     }
 }
 
-// Performs one line, and puts its answer.
+// Performs one line, and puts its answer, which is formed in another that is lent.
 pub(crate) fn perform_line<L: Layer, K: Sink>(
     heap: &mut Heap<L>,
     space: &mut Space,
     sink: &mut K,
+    answer: &mut Line,
     number: u64,
     line: &[u8],
 ) -> Step
@@ -59,7 +63,7 @@ pub(crate) fn perform_line<L: Layer, K: Sink>(
     ensures rules { rules_at L.model heap.new ≡ rules_at L.model heap.old }
 {
     match read_line(line) {
-        Ok(Some(call)) => perform_call(heap, space, sink, number, &call),
+        Ok(Some(call)) => perform_call(heap, space, sink, answer, number, &call),
         Ok(None) => Step::Goes,
         Err(fault) => put_fault(sink, number, &TraceFault::Line { fault }, space),
     }
@@ -67,10 +71,11 @@ pub(crate) fn perform_line<L: Layer, K: Sink>(
 
 // Takes the next byte.
 #[tactic(auto, unfolding(crate::specs::Place::fed, crate::specs::Place::fed_place))]
-pub(crate) fn feed<L: Layer, K: Sink>(
+fn feed<L: Layer, K: Sink>(
     heap: &mut Heap<L>,
     space: &mut Space,
     sink: &mut K,
+    answer: &mut Line,
     reader: &mut Reader,
     byte: u8,
 ) -> Step
@@ -87,11 +92,17 @@ pub(crate) fn feed<L: Layer, K: Sink>(
         return put_fault(sink, reader.number, &TraceFault::TooMuchInput, space);
     }
     if byte == b'\n' {
-        let step = perform_line(heap, space, sink, reader.number, reader.begun.as_slice());
+        let len = reader.begun.len();
+        let step = perform_line(
+            heap,
+            space,
+            sink,
+            answer,
+            reader.number,
+            reader.begun.as_slice(),
+        );
         if step == Step::Goes {
-            reader.number += 1;
-            reader.before += reader.begun.len() + 1;
-            reader.begun.clear();
+            reader.pass_line(len);
         }
         return step;
     }
@@ -101,4 +112,38 @@ pub(crate) fn feed<L: Layer, K: Sink>(
     }
     reader.begun.push(byte);
     Step::Goes
+}
+
+// Takes the next line where it lies whole in the bytes, and else the next byte. Says how many bytes that were.
+pub(crate) fn feed_next<L: Layer, K: Sink>(
+    heap: &mut Heap<L>,
+    space: &mut Space,
+    sink: &mut K,
+    answer: &mut Line,
+    reader: &mut Reader,
+    bytes: &[u8],
+) -> (Step, usize)
+    requires some { 0 < length bytes.now }
+    requires opened { IsOpen reader.old.begun.items }
+    requires short { length reader.old.begun.items ≤ 256 }
+    requires held { HeldAt L.model heap.old space.old }
+    ensures some { 0 < result.1 }
+    ensures within { result.1 ≤ length bytes.now }
+    ensures fed { Fed (rules_at L.model heap.old) (place_of reader.old (run_at L.model heap.old space.old)) (take result.1 bytes.now)
+        (place_of reader.new (run_at L.model heap.new space.new))
+        (writing K.holds K.faults sink.old) (writing K.holds K.faults sink.new) result.0 }
+    ensures held { HeldAt L.model heap.new space.new }
+    ensures rules { rules_at L.model heap.new ≡ rules_at L.model heap.old }
+{
+    let Some(line) = reader.whole_line(bytes) else {
+        return (feed(heap, space, sink, answer, reader, bytes[0]), 1);
+    };
+    let taken = line.len() + 1;
+    match perform_line(heap, space, sink, answer, reader.number, line) {
+        Step::Goes => {
+            reader.pass_line(line.len());
+            (Step::Goes, taken)
+        }
+        step => (step, taken),
+    }
 }

@@ -32,7 +32,7 @@ pub enum Status {
     Trace,
     /// The source failed. The answers to the lines before that were written.
     ReadFault,
-    /// The sink failed within the text. Nothing was written after that.
+    /// The sink failed within the text, or to hand on what was put. Nothing was put after that.
     WriteFault,
     /// The root could not be opened. The node was written, and nothing was read.
     OpeningRefused,

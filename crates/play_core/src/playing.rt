@@ -1,5 +1,5 @@
 // A replay: the Space, the root and the heap are made, and the trace is run on them.
-ghost use Rattle.std.specs.Prelude.{◌≡◌, ◌≤◌, List, ℕ, false};
+ghost use Rattle.std.specs.Prelude.{◌≡◌, ◌≤◌, List, ℕ, false, true};
 ghost use Rattle.space_core.specs.Memory.{most_cells, no_memory};
 ghost use Rattle.layer_rules.specs.Layering.{Stands, IsShut};
 ghost use Rattle.expr_reader.specs.Buildable.{IsBuildable};
@@ -46,6 +46,7 @@ fn play_on<L: Layer, S: Source, K: Sink>(
     requires free { HasAllFree space.old }
     ensures early { IsEarly result → source.new ≡ source.old }
     ensures no_memory { result ≡ Status.NoMemory → sink.new ≡ sink.old }
+    ensures flushed { (result ≡ Status.WriteFault → ⊥) → (result ≡ Status.NoMemory → ⊥) → K.flushed sink.new ≡ true }
     ensures plays { PlaysOn (L.model root).rules ((L.model root).rules.set_up 0 space.old.cells)
         (reading S.left S.faults S.finished source.old) (reading S.left S.faults S.finished source.new)
         (writing K.holds K.faults sink.old) (writing K.holds K.faults sink.new) space.new result }
@@ -81,6 +82,7 @@ pub(crate) fn play<S: Source, K: Sink>(
     requires most_cells { cells ≤ most_cells }
     ensures early { IsEarly result → source.new ≡ source.old }
     ensures no_memory { result ≡ Status.NoMemory → sink.new ≡ sink.old }
+    ensures flushed { (result ≡ Status.WriteFault → ⊥) → (result ≡ Status.NoMemory → ⊥) → K.flushed sink.new ≡ true }
     ensures runs { Runs (Replays (tree_of expr.now) cells)
         (reading S.left S.faults S.finished source.old) (reading S.left S.faults S.finished source.new)
         (writing K.holds K.faults sink.old) (writing K.holds K.faults sink.new) space.new result }

@@ -1,9 +1,9 @@
 // Text that is put into a sink.
-ghost use Rattle.std.specs.Prelude.{◌≡◌, ◌≤◌, length, drop, map, OnOk, OnErr};
+ghost use Rattle.std.specs.Prelude.{◌≡◌, ◌≤◌, length, drop, map, true, OnOk, OnErr};
 ghost use Rattle.trace_text.specs.Text.{fault_text};
 ghost use Rattle.play_core.specs.Devices.{writing, PutsAll, PutsPart};
 ghost use Rattle.play_core.specs.Ends.{LinesPut, StopPut};
-ghost use Rattle.play_core.specs.Runs.{TextPut};
+ghost use Rattle.play_core.specs.Runs.{HandsOn, TextPut};
 
 use crate::{Status, Step};
 use source_sink::{Failed, Sink};
@@ -30,12 +30,24 @@ pub(crate) fn put_all<K: Sink>(sink: &mut K, text: &[u8], space: &Space) -> Resu
     Ok(())
 }
 
-// Puts one text, which is all that is told.
+// Hands on what was put, of a run that ends with this status.
+pub(crate) fn hand_on<K: Sink>(sink: &mut K, status: Status) -> Status
+    ensures hands_on { HandsOn status (writing K.holds K.faults sink.old) (writing K.holds K.faults sink.new) result }
+    ensures flushed { (result ≡ Status.WriteFault → ⊥) → K.flushed sink.new ≡ true }
+{
+    match sink.flush() {
+        Ok(()) => status,
+        Err(_) => Status::WriteFault,
+    }
+}
+
+// Puts one text, which is all that is told, and hands it on.
 pub(crate) fn put_only<K: Sink>(sink: &mut K, text: &[u8], status: Status, space: &Space) -> Status
-    ensures { TextPut status text.now (writing K.holds K.faults sink.old) (writing K.holds K.faults sink.new) result }
+    ensures put { TextPut status text.now (writing K.holds K.faults sink.old) (writing K.holds K.faults sink.new) result }
+    ensures flushed { (result ≡ Status.WriteFault → ⊥) → K.flushed sink.new ≡ true }
 {
     match put_all(sink, text, space) {
-        Ok(()) => status,
+        Ok(()) => hand_on(sink, status),
         Err(_) => Status::WriteFault,
     }
 }

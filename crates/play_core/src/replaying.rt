@@ -1,5 +1,5 @@
 // A whole trace.
-ghost use Rattle.std.specs.Prelude.{◌≡◌, ◌≤◌, [], length, take, false};
+ghost use Rattle.std.specs.Prelude.{◌≡◌, ◌≤◌, [], length, take, false, true};
 ghost use Rattle.play_core.specs.Devices.{reading, writing};
 ghost use Rattle.play_core.specs.Ends.{run_at, rules_at, HeldAt, Fed, Lasts, Finishes};
 ghost use Rattle.play_core.specs.Lines.{IsOpen};
@@ -7,7 +7,8 @@ ghost use Rattle.play_core.specs.Place.{place_of, told_at};
 ghost use Rattle.play_core.specs.Ran.{Ran};
 ghost use Rattle.play_core.specs.Told.{reported};
 
-use crate::feeding::{feed, perform_line};
+use crate::feeding::{feed_next, perform_line};
+use crate::putting::hand_on;
 use crate::reader::{MOST_INPUT, Reader};
 use crate::report::put_report;
 use crate::{Status, Step};
@@ -15,6 +16,7 @@ use heap_core::Heap;
 use layer_core::Layer;
 use source_sink::{Sink, Source};
 use space_core::Space;
+use trace_text::Line;
 
 // The first so many bytes.
 fn front(bytes: &[u8], count: usize) -> &[u8]
@@ -24,7 +26,7 @@ fn front(bytes: &[u8], count: usize) -> &[u8]
     &bytes[..count]
 }
 
-// Takes bytes one after another, as far as nothing ends the run.
+// Takes all bytes, as far as nothing ends the run.
 fn feed_all<L: Layer, K: Sink>(
     heap: &mut Heap<L>,
     space: &mut Space,
@@ -41,9 +43,12 @@ fn feed_all<L: Layer, K: Sink>(
     ensures held { HeldAt L.model heap.new space.new }
     ensures rules { rules_at L.model heap.new ≡ rules_at L.model heap.old }
 {
-    for byte in bytes {
-        match feed(heap, space, sink, reader, *byte) {
-            Step::Goes => {}
+    let mut answer = Line::new();
+    let mut at = 0;
+    while at < bytes.len() {
+        let (step, taken) = feed_next(heap, space, sink, &mut answer, reader, &bytes[at..]);
+        match step {
+            Step::Goes => at += taken,
             step => return step,
         }
     }
@@ -68,7 +73,15 @@ fn last_line<L: Layer, K: Sink>(
     if reader.begun.is_empty() {
         return Step::Goes;
     }
-    perform_line(heap, space, sink, reader.number, reader.begun.as_slice())
+    let mut answer = Line::new();
+    perform_line(
+        heap,
+        space,
+        sink,
+        &mut answer,
+        reader.number,
+        reader.begun.as_slice(),
+    )
 }
 
 // Puts the report at the end of a trace.
@@ -105,8 +118,9 @@ fn finish<L: Layer, K: Sink>(
     }
 }
 
-// Replays the trace that the source gives, and writes its answers and the report to the sink.
-pub(crate) fn replay<L: Layer, S: Source, K: Sink>(
+// Takes the trace that the source gives, and puts its answers and the report into the sink. What was put is handed on
+// each time before the source is asked.
+fn replay_to_end<L: Layer, S: Source, K: Sink>(
     heap: &mut Heap<L>,
     space: &mut Space,
     source: &mut S,
@@ -117,12 +131,17 @@ pub(crate) fn replay<L: Layer, S: Source, K: Sink>(
     ensures ran { Ran (rules_at L.model heap.old) (run_at L.model heap.old space.old) (run_at L.model heap.new space.new)
         (reading S.left S.faults S.finished source.old) (reading S.left S.faults S.finished source.new)
         (writing K.holds K.faults sink.old) (writing K.holds K.faults sink.new) result }
+    ensures flushed { result ≡ Status.ReadFault → K.flushed sink.new ≡ true }
     ensures held { HeldAt L.model heap.new space.new }
     ensures rules { rules_at L.model heap.new ≡ rules_at L.model heap.old }
 {
     let mut reader = Reader::new();
     let mut room = [0u8; 4096];
     'taking: loop {
+        match sink.flush() {
+            Ok(()) => {}
+            Err(_) => return Status::WriteFault,
+        }
         let missing = MOST_INPUT + 1 - reader.before - reader.begun.len();
         let want = missing.min(4096);
         let into = &mut room[..want];
@@ -138,5 +157,28 @@ pub(crate) fn replay<L: Layer, S: Source, K: Sink>(
             Step::Stops => return Status::Trace,
             Step::SinkFailed => return Status::WriteFault,
         }
+    }
+}
+
+// Replays the trace that the source gives, and hands on its answers and the report.
+pub(crate) fn replay<L: Layer, S: Source, K: Sink>(
+    heap: &mut Heap<L>,
+    space: &mut Space,
+    source: &mut S,
+    sink: &mut K,
+) -> Status
+    requires opened { S.finished source.old ≡ false }
+    requires held { HeldAt L.model heap.old space.old }
+    ensures ran { Ran (rules_at L.model heap.old) (run_at L.model heap.old space.old) (run_at L.model heap.new space.new)
+        (reading S.left S.faults S.finished source.old) (reading S.left S.faults S.finished source.new)
+        (writing K.holds K.faults sink.old) (writing K.holds K.faults sink.new) result }
+    ensures flushed { (result ≡ Status.WriteFault → ⊥) → K.flushed sink.new ≡ true }
+    ensures held { HeldAt L.model heap.new space.new }
+    ensures rules { rules_at L.model heap.new ≡ rules_at L.model heap.old }
+{
+    match replay_to_end(heap, space, source, sink) {
+        Status::Good => hand_on(sink, Status::Good),
+        Status::Trace => hand_on(sink, Status::Trace),
+        status => status,
     }
 }

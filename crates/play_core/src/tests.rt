@@ -1,10 +1,14 @@
 // What no clause says: that runs come to their end with ample memory.
-ghost use Rattle.std.specs.Prelude.{◌≡◌, Some, false};
+ghost use Rattle.std.specs.Prelude.{◌≡◌, Some, false, true};
 
 use crate::{Status, run};
-use source_sink::{Failed, MemorySink, MemorySource, Sink, Source, StillSink, StillSource};
+use source_sink::{
+    Failed, MemorySink, MemorySource, Sink, Source, StdSink, StdSource, StillSink, StillSource,
+};
 use space_core::Space;
 use std::alloc::{AllocError, Global};
+use std::cell::Cell;
+use std::io::{self, Read, Write};
 use std::process::Abort;
 use std::test::Fail;
 
@@ -223,6 +227,89 @@ const TRACES: [Row; 32] = [
     },
 ];
 
+// A trace that comes in pieces of so many bytes, the one call of the source and the one of the sink that fail, and how
+// that ends. No source is asked, and no sink called, 99 times.
+struct Failing {
+    words: &'static [&'static str],
+    trace: &'static str,
+    most: usize,
+    source_fails: u64,
+    sink_fails: u64,
+    status: Status,
+    told: &'static str,
+}
+
+const FAILINGS: [Failing; 7] = [
+    // the second piece of the input
+    Failing {
+        words: &["replay", "region(1024,16,mem)", "64"],
+        trace: "a 1 10\na 2 10\n",
+        most: 10,
+        source_fails: 1,
+        sink_fails: 99,
+        status: Status::ReadFault,
+        told: "a 1 0\n",
+    },
+    // the second answer
+    Failing {
+        words: &["replay", "region(1024,16,mem)", "64"],
+        trace: "a 1 10\na 2 10\n",
+        most: 4096,
+        source_fails: 99,
+        sink_fails: 2,
+        status: Status::WriteFault,
+        told: "a 1 0\n",
+    },
+    // handing on before the first piece of the input is asked for, before the second, and at the end
+    Failing {
+        words: &["replay", "region(1024,16,mem)", "64"],
+        trace: "a 1 10\na 2 10\n",
+        most: 10,
+        source_fails: 0,
+        sink_fails: 0,
+        status: Status::WriteFault,
+        told: "",
+    },
+    Failing {
+        words: &["replay", "region(1024,16,mem)", "64"],
+        trace: "a 1 10\na 2 10\n",
+        most: 10,
+        source_fails: 1,
+        sink_fails: 2,
+        status: Status::WriteFault,
+        told: "a 1 0\n",
+    },
+    Failing {
+        words: &["replay", "region(1024,16,mem)", "64"],
+        trace: "a 1 10\na 2 10\n",
+        most: 4096,
+        source_fails: 99,
+        sink_fails: 10,
+        status: Status::WriteFault,
+        told: "a 1 0\na 2 16\nlive 2\nasked 20\nextent 32\nslack 12\nnode 0 region room 992 longest 992\nnode 1 mem cells 16\n",
+    },
+    // behind the fault of a line
+    Failing {
+        words: &["replay", "region(1024,16,mem)", "64"],
+        trace: "a 1 10\nf 2\n",
+        most: 4096,
+        source_fails: 99,
+        sink_fails: 3,
+        status: Status::WriteFault,
+        told: "a 1 0\nline 2: name is not live\n",
+    },
+    // behind one text
+    Failing {
+        words: &["check", "mem"],
+        trace: "",
+        most: 4096,
+        source_fails: 0,
+        sink_fails: 1,
+        status: Status::WriteFault,
+        told: "mem\nnodes 1\nalign 64\noffers expand aligned all\n",
+    },
+];
+
 // Expressions without a fault, and what stands in them.
 const EXPRESSIONS: [(&str, &str); 4] = [
     (
@@ -322,12 +409,64 @@ impl Sink for PieceSink {
 
     ghost faults = { λ s. s.sink.faults };
 
+    ghost flushed = { λ _. true };
+
     fn put(&mut self, piece: &[u8], space: &Space) -> Result<usize, Failed> {
         self.pieces = self.pieces.saturating_add(1);
         if piece.iter().position(|byte| *byte == b'\n') == Some(piece.len() - 1) {
             self.lines = self.lines.saturating_add(1);
         }
         self.sink.put(piece, space)
+    }
+
+    fn flush(&mut self) -> Result<(), Failed> {
+        self.sink.flush()
+    }
+}
+
+// A writer that counts what it was given.
+#[derive(Drop)]
+struct FarEnd<'a> {
+    written: &'a Cell<usize>,
+}
+
+impl<'a> Write for FarEnd<'a> {
+    fn write(&mut self, piece: &[u8]) -> io::Result<usize> {
+        self.written
+            .set(self.written.get().saturating_add(piece.len()));
+        Ok(piece.len())
+    }
+
+    fn flush(&mut self) -> io::Result<()> {
+        Ok(())
+    }
+}
+
+// A reader that gives one byte at a time, and counts how often it is asked before the answers to the whole lines that it
+// gave were written, which are so many bytes by the number of lines.
+#[derive(Drop)]
+struct NearEnd<'a> {
+    trace: &'static [u8],
+    answered: &'static [usize],
+    lines: usize,
+    written: &'a Cell<usize>,
+    early: &'a Cell<usize>,
+}
+
+impl<'a> Read for NearEnd<'a> {
+    fn read(&mut self, into: &mut [u8]) -> io::Result<usize> {
+        if self.answered.get(self.lines) != Some(&self.written.get()) {
+            self.early.set(self.early.get().saturating_add(1));
+        }
+        let (Some((byte, rest)), Some(room)) = (self.trace.split_first(), into.first_mut()) else {
+            return Ok(0);
+        };
+        *room = *byte;
+        self.trace = rest;
+        if *byte == b'\n' {
+            self.lines = self.lines.saturating_add(1);
+        }
+        Ok(1)
     }
 }
 
@@ -418,25 +557,51 @@ fn lines_are_pieces(rt: HostRuntime) -> Result<(), Fail> {
     Ok(())
 }
 
-// Each device fails in its second call: what was answered before that stands.
+// Byte by byte, no byte of a line is asked for before the answers to the lines before it stand on the other side.
+#[test]
+fn answers_come_before_more_is_asked(rt: HostRuntime) -> Result<(), Fail> {
+    let alloc = rt.alloc();
+    let (written, early) = (Cell::new(0), Cell::new(0));
+    let mut source = StdSource::new(NearEnd {
+        trace: b"a 1 10\n# no call\na 2 10\nf 1\n",
+        answered: &[0, 6, 6, 13, 23],
+        lines: 0,
+        written: &written,
+        early: &early,
+    });
+    let Ok(mut sink) = StdSink::new(alloc, FarEnd { written: &written }) else {
+        panic!(rt; "no memory");
+    };
+    let words = ["replay", "region(1024,16,mem)", "64"];
+    let status = ended(alloc, &words, &mut source, &mut sink)?;
+    assert_eq!(rt; status, Status::Good);
+    assert_eq!(rt; early.get(), 0);
+    assert_eq!(rt; written.get(), 112);
+    Ok(())
+}
+
+// A device fails in the call of this number, and what was put before that stands.
 #[test]
 fn devices_fail(rt: HostRuntime) -> Result<(), Fail> {
-    for (most, source_fails, sink_fails, status) in [
-        (4096, 9, 1, Status::WriteFault),
-        (10, 1, 9, Status::ReadFault),
-    ] {
-        let alloc = rt.alloc();
-        let words = ["replay", "region(1024,16,mem)", "64"];
-        let trace = Vec::from_slice(alloc, b"a 1 10\na 2 10\n")?;
-        let failing = Vec::from_slice(alloc, &[source_fails])?;
-        let mut source = MemorySource::new(trace, most, failing);
-        let failing = Vec::from_slice(alloc, &[sink_fails])?;
-        let Ok(mut sink) = MemorySink::new(alloc, 4096, failing) else {
-            panic!(rt; "no memory");
-        };
-        assert_eq!(rt; ended(alloc, &words, &mut source, &mut sink)?, status);
-        assert_eq!(rt; sink.bytes(), "a 1 0\n".as_bytes());
+    for row in &FAILINGS {
+        fails(&rt, row)?;
     }
+    Ok(())
+}
+
+fn fails(rt: &(impl AllocGlobal + Abort), row: &Failing) -> Result<(), Fail> {
+    let alloc = rt.alloc();
+    let trace = Vec::from_slice(alloc, row.trace.as_bytes())?;
+    let failing = Vec::from_slice(alloc, &[row.source_fails])?;
+    assert!(rt; 1 <= row.most);
+    let mut source = MemorySource::new(trace, row.most, failing);
+    let failing = Vec::from_slice(alloc, &[row.sink_fails])?;
+    let Ok(mut sink) = MemorySink::new(alloc, 4096, failing) else {
+        panic!(rt; "no memory");
+    };
+    let status = ended(alloc, row.words, &mut source, &mut sink)?;
+    assert_eq!(rt; status, row.status);
+    assert_eq!(rt; sink.bytes(), row.told.as_bytes());
     Ok(())
 }
 

@@ -36,6 +36,7 @@ fn obey<S: Source, K: Sink>(
     ensures early { IsEarly result → source.new ≡ source.old }
     ensures check { IsCheck (command_of (map string_bytes words.now)) → source.new ≡ source.old }
     ensures no_memory { result ≡ Status.NoMemory → (sink.new ≡ sink.old) × IsSome (command_of (map string_bytes words.now)) }
+    ensures flushed { (result ≡ Status.WriteFault → ⊥) → (result ≡ Status.NoMemory → ⊥) → K.flushed sink.new ≡ true }
     ensures runs { (asked : Asked) → Asks (map string_bytes words.now) asked → Runs asked
         (reading S.left S.faults S.finished source.old) (reading S.left S.faults S.finished source.new)
         (writing K.holds K.faults sink.old) (writing K.holds K.faults sink.new) space.new result }
@@ -66,8 +67,8 @@ fn obey<S: Source, K: Sink>(
 ///
 /// The words are those behind the program's name. `EXPR` is a text that `expr_reader::read` accepts, and `CELLS` is a
 /// number of 1 to 262,144. The source is asked for at most 4,096 bytes at a time, and before it is asked again each
-/// whole line was performed and its answer was put. The Space is lent closed, and the sink sees it as it stands at
-/// each piece.
+/// whole line was performed, and its answer was put and handed on. At the end all that was put is handed on. The
+/// Space is lent closed, and the sink sees it as it stands at each piece.
 ///
 /// The status says how it ended. Memory is taken before the first byte is read or written, and not after that.
 pub fn run<S: Source, K: Sink>(
@@ -113,6 +114,10 @@ pub fn run<S: Source, K: Sink>(
     ensures read_fault { result ≡ Status.ReadFault → IsGranted (map string_bytes words.now)
         × (S.finished source.new ≡ true) × Rose (S.faults source.old) (S.faults source.new) }
     ensures write_fault { result ≡ Status.WriteFault → Rose (K.faults sink.old) (K.faults sink.new) }
+
+    // All that was put was handed on, unless that failed. So it is where the source failed too: before it was asked, each
+    // answer so far had been handed on.
+    ensures flushed { (result ≡ Status.WriteFault → ⊥) → (result ≡ Status.NoMemory → ⊥) → K.flushed sink.new ≡ true }
 
     // Memory lacks only where the words are a command, and before anything is read or written.
     ensures no_memory { result ≡ Status.NoMemory → (source.new ≡ source.old) × (sink.new ≡ sink.old) × IsSome (command_of (map string_bytes words.now)) }

@@ -1,5 +1,5 @@
 // A source and a sink in memory that fail in named calls.
-ghost use Rattle.std.specs.Prelude.{◌≡◌, ◌≤◌, ◌<◌, ◌+◌, ◌++◌, ◌↔◌, ◌⊎◌, [], Some, Contains, take, length, min, IfOk, OnOk, OnErr, IsErr, false};
+ghost use Rattle.std.specs.Prelude.{◌≡◌, ◌≤◌, ◌<◌, ◌+◌, ◌++◌, ◌↔◌, ◌⊎◌, [], Some, Contains, take, length, min, IfOk, OnOk, OnErr, IsErr, false, true};
 ghost use Rattle.source_sink.specs.Counts.{one_more};
 ghost use Rattle.source_sink.specs.Sources.{finishes};
 
@@ -106,7 +106,7 @@ impl Source for MemorySource {
 }
 
 /// Takes each piece whole while there is room, which it has from the start, and fails in the calls whose numbers
-/// it was given. Calls are counted from 0, and their count stops at 2^64 - 1.
+/// it was given. Calls of both kinds are counted together from 0, and their count stops at 2^64 - 1.
 #[derive(Drop)]
 pub struct MemorySink {
     bytes: Vec<u8>,
@@ -172,6 +172,8 @@ impl Sink for MemorySink {
 
     ghost faults = { λ s. s.faults };
 
+    ghost flushed = { λ _. true };
+
     /// Fails exactly in the named calls and for a piece that doesn't fit. In another call it appends the whole
     /// piece.
     fn put(&mut self, piece: &[u8], _space: &Space) -> Result<usize, Failed>
@@ -197,5 +199,24 @@ impl Sink for MemorySink {
         self.bytes.extend_from_slice(piece).unwrap();
         self.free -= piece.len();
         Ok(piece.len())
+    }
+    /// Fails exactly in the named calls. In another it does nothing, since it keeps what it took.
+    fn flush(&mut self) -> Result<(), Failed>
+        ensures kept { self.new.bytes ≡ self.old.bytes }
+        ensures counted { OnOk result (self.new.faults ≡ self.old.faults) }
+        ensures cause { OnErr result ((self.old.faults ≤ self.new.faults) × (self.new.faults ≡ one_more self.old.faults)) }
+
+        ensures named { IsErr result ↔ Contains self.old.failing self.old.calls }
+        ensures room { self.new.free ≡ self.old.free }
+        ensures called { self.new.calls ≡ one_more self.old.calls }
+        ensures same { self.new.failing ≡ self.old.failing }
+    {
+        let call = self.calls;
+        self.calls = call.saturating_add(1);
+        if self.failing.contains(&call) {
+            self.faults = self.faults.saturating_add(1);
+            return Err(Failed);
+        }
+        Ok(())
     }
 }

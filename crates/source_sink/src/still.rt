@@ -1,5 +1,5 @@
 // A source and a sink in memory, which fail only for want of room.
-ghost use Rattle.std.specs.Prelude.{◌≡◌, ◌≤◌, ◌<◌, ◌+◌, ◌++◌, ◌↔◌, [], Some, drop, take, length, min, IfOk, OnOk, OnErr, IsErr, Ok, false};
+ghost use Rattle.std.specs.Prelude.{◌≡◌, ◌≤◌, ◌<◌, ◌+◌, ◌++◌, ◌↔◌, [], Some, drop, take, length, min, IfOk, OnOk, OnErr, IsErr, IsOk, Ok, false, true};
 ghost use Rattle.source_sink.specs.Counts.{Rose, most_faults};
 ghost use Rattle.source_sink.specs.Sources.{finishes};
 
@@ -125,6 +125,8 @@ impl Sink for StillSink {
 
     ghost faults = { λ s. s.faults };
 
+    ghost flushed = { λ _. true };
+
     /// Appends the whole piece where it fits. A piece that doesn't fit is `Failed`, and no other.
     fn put(&mut self, piece: &[u8], _space: &Space) -> Result<usize, Failed>
         requires { 0 < length piece.now }
@@ -146,5 +148,12 @@ impl Sink for StillSink {
         self.bytes.extend_from_slice(piece).unwrap();
         self.free -= piece.len();
         Ok(piece.len())
+    }
+    /// Does nothing, since it keeps what it took.
+    fn flush(&mut self) -> Result<(), Failed>
+        ensures done { IsOk result }
+        ensures same { self.new ≡ self.old }
+    {
+        Ok(())
     }
 }

@@ -36,18 +36,21 @@ impl Read for TornReader {
 #[derive(Drop)]
 struct TornWriter {
     calls: u32,
+    taken: Vec<u8>,
 }
 
 impl Write for TornWriter {
     fn write(&mut self, piece: &[u8]) -> io::Result<usize> {
         let call = self.calls;
         self.calls = call.saturating_add(1);
-        match call {
-            0 => Ok(piece.len().min(2)),
-            1 => Err(io::Error::from(ErrorKind::TimedOut)),
-            2 => Ok(0),
-            _ => Ok(piece.len()),
-        }
+        let count = match call {
+            0 => piece.len().min(2),
+            1 => return Err(io::Error::from(ErrorKind::TimedOut)),
+            2 => 0,
+            _ => piece.len(),
+        };
+        self.taken.extend_from_slice(&piece[..count])?;
+        Ok(count)
     }
 
     fn flush(&mut self) -> io::Result<()> {
@@ -86,33 +89,74 @@ const TAKINGS: [Taking; 4] = [
     },
 ];
 
-// A sink: its room, the calls that fail, the answers to three pieces of three bytes, and what it holds then.
+// A call of a sink, and its answer.
+enum Calling {
+    Put(Result<usize, Failed>),
+    Flush(Result<(), Failed>),
+}
+
+// A sink: its room, the calls that fail, the answers to pieces of three bytes and to flushes, and what it holds then.
 struct Putting {
     free: usize,
     failing: &'static [u64],
-    answers: &'static [Result<usize, Failed>],
+    calls: &'static [Calling],
     held: &'static [u8],
 }
 
-const PUTTINGS: [Putting; 3] = [
+const PUTTINGS: [Putting; 4] = [
     Putting {
         free: 9,
         failing: &[1],
-        answers: &[Ok(3), Err(Failed), Ok(3)],
+        calls: &[
+            Calling::Put(Ok(3)),
+            Calling::Put(Err(Failed)),
+            Calling::Put(Ok(3)),
+        ],
         held: b"abcabc",
     },
     Putting {
         free: 5,
         failing: &[],
-        answers: &[Ok(3), Err(Failed), Err(Failed)],
+        calls: &[
+            Calling::Put(Ok(3)),
+            Calling::Put(Err(Failed)),
+            Calling::Flush(Ok(())),
+            Calling::Put(Err(Failed)),
+        ],
         held: b"abc",
     },
     Putting {
         free: 5,
         failing: &[7, 0],
-        answers: &[Err(Failed), Ok(3), Err(Failed)],
+        calls: &[
+            Calling::Put(Err(Failed)),
+            Calling::Put(Ok(3)),
+            Calling::Put(Err(Failed)),
+        ],
         held: b"abc",
     },
+    Putting {
+        free: 9,
+        failing: &[0, 3],
+        calls: &[
+            Calling::Flush(Err(Failed)),
+            Calling::Flush(Ok(())),
+            Calling::Put(Ok(3)),
+            Calling::Flush(Err(Failed)),
+            Calling::Put(Ok(3)),
+        ],
+        held: b"abcabc",
+    },
+];
+
+// A writer behind a sink: a piece of three bytes waits until it is handed on.
+const WAITING: [Calling; 6] = [
+    Calling::Flush(Ok(())),
+    Calling::Put(Ok(3)),
+    Calling::Flush(Err(Failed)),
+    Calling::Put(Ok(3)),
+    Calling::Flush(Err(Failed)),
+    Calling::Flush(Ok(())),
 ];
 
 // One call through the bound.
@@ -127,6 +171,17 @@ fn put_into<K: Sink>(sink: &mut K, piece: &[u8], space: &Space) -> Result<usize,
     requires { 0 < length piece.now }
 {
     sink.put(piece, space)
+}
+
+// Makes each call, with the piece `abc`.
+fn answers<K: Sink>(rt: &impl Abort, sink: &mut K, calls: &[Calling]) {
+    let space = Space::closed();
+    for call in calls {
+        match call {
+            Calling::Put(want) => assert_eq!(rt; sink.put(b"abc", &space), *want),
+            Calling::Flush(want) => assert_eq!(rt; sink.flush(), *want),
+        }
+    }
 }
 
 #[test]
@@ -146,11 +201,36 @@ fn a_reader_that_fails_is_a_fault_and_no_end(rt: HostRuntime) -> Result<(), Fail
 
 #[test]
 fn a_writer_that_fails_or_takes_nothing_is_a_fault(rt: HostRuntime) -> Result<(), Fail> {
+    let mut writer = TornWriter {
+        calls: 0,
+        taken: Vec::new(rt.alloc()),
+    };
+    let Ok(mut sink) = StdSink::new(rt.alloc(), &mut writer) else {
+        panic!(rt; "no memory");
+    };
+    answers(&rt, &mut sink, &WAITING);
+    drop(sink);
+    assert_eq!(rt; writer.taken.as_slice(), b"abcabc".as_slice());
+    Ok(())
+}
+
+// A piece that is longer than the buffer goes on at once, as far as the writer takes it.
+#[test]
+fn a_long_piece_is_written_once(rt: HostRuntime) -> Result<(), Fail> {
     let space = Space::closed();
-    let mut sink = StdSink::new(TornWriter { calls: 0 });
-    for want in [Ok(2), Err(Failed), Err(Failed), Ok(5)] {
-        assert_eq!(rt; put_into(&mut sink, b"heaps", &space), want);
+    let piece = [b'a'; 9000];
+    let mut writer = TornWriter {
+        calls: 0,
+        taken: Vec::new(rt.alloc()),
+    };
+    let Ok(mut sink) = StdSink::new(rt.alloc(), &mut writer) else {
+        panic!(rt; "no memory");
+    };
+    for want in [Ok(2), Err(Failed), Err(Failed), Ok(9000)] {
+        assert_eq!(rt; put_into(&mut sink, &piece, &space), want);
     }
+    drop(sink);
+    assert_eq!(rt; writer.taken.len(), 9002);
     Ok(())
 }
 
@@ -168,6 +248,7 @@ fn what_is_in_memory_comes_and_goes_whole(rt: HostRuntime) -> Result<(), Fail> {
         assert_eq!(rt; put_into(&mut sink, piece, &space), want);
     }
     assert_eq!(rt; put_into(&mut sink, b"d", &space), Ok(1));
+    assert_eq!(rt; sink.flush(), Ok(()));
     assert_eq!(rt; sink.bytes(), b"abcd".as_slice());
     assert_eq!(rt;
         format!(in rt.alloc(); "{Failed}")?.as_str(),
@@ -211,14 +292,11 @@ fn a_sink_in_memory_fails_in_the_named_calls(rt: HostRuntime) -> Result<(), Fail
 
 fn puts(rt: &(impl AllocGlobal + Abort), row: &Putting) -> Result<(), Fail> {
     let alloc = rt.alloc();
-    let space = Space::closed();
     let failing = Vec::from_slice(alloc, row.failing)?;
     let Ok(mut sink) = MemorySink::new(alloc, row.free, failing) else {
         panic!(rt; "no memory");
     };
-    for want in row.answers {
-        assert_eq!(rt; put_into(&mut sink, b"abc", &space), *want);
-    }
+    answers(rt, &mut sink, row.calls);
     assert_eq!(rt; sink.bytes(), row.held);
     Ok(())
 }

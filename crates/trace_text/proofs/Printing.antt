@@ -1,9 +1,16 @@
 -- Printing: texts that a loop writes part by part.
-use Rattle.std.proofs.Common.{◌≡◌, ◌≢◌, ℕ, ◌+◌, ◌<◌, List, [], ◌∷◌, ◌++◌, length, get_or, take, map, refl, sym, ◌∙◌, ap, arith, decimal, append_assoc}
+use Rattle.std.proofs.Common.{◌≡◌, ◌≢◌, ℕ, ◌+◌, ◌≤◌, ◌<◌, List, [], ◌∷◌, ◌++◌, length, get_or, take, map, refl, sym, ◌∙◌, ap, arith, decimal, append_assoc}
 use Rattle.std.specs.List.{join_with_byte}
 use Rattle.std.proofs.lemmas.Grind.{flat_map-append}
 use Rattle.std.proofs.lemmas.List.{length-take, map-append, take_more}
-use Rattle.trace_text.specs.Text.{byte_text, octets_text, path_text}
+use Rattle.heap_core.specs.declared.Call.{Call}
+use Rattle.heap_core.specs.declared.Call.TheVariants.{OwnsAt}
+use Rattle.trace_text.specs.Text.{byte_text, most_asked, octets_text, path_text}
+
+-- what stands in front of an answer is short
+pub most_asked_le : (call : Call) → most_asked call ≤ 191
+most_asked_le (OwnsAt n steps) = omega arith
+most_asked_le _ = omega arith
 
 -- one more in a row
 pub join_more : (c : ℕ) (x : List ℕ) (xs : List (List ℕ)) (y : List ℕ) → join_with_byte c ((x ∷ xs) ++ y ∷ []) ≡ join_with_byte c (x ∷ xs) ++ c ∷ y

@@ -62,6 +62,11 @@ asked_text (Good size) = named 103 size
 asked_text (Write n offset bytes) = named 119 n
 asked_text (Read n offset len) = named 100 n
 
+-- the most bytes that stand there: a number has at most 20 digits, and a path at most 168 bytes
+abbrev pub most_asked : Call → ℕ
+most_asked (OwnsAt n steps) = 191
+most_asked _ = 22
+
 -- a space, and that a call was done
 abbrev pub done_text : Call → List ℕ
 done_text FreeAll = codes " done"

@@ -2,7 +2,7 @@
 ghost use Rattle.std.specs.Prelude.{◌≡◌, ◌≤◌, ◌<◌, ◌+◌, ◌*◌, ◌++◌, ◌∷◌, [], length, decimal};
 ghost use Rattle.std.specs.Char.{digit_char};
 ghost use Rattle.arrayvec.specs.ArrayString.{array_string_len};
-ghost use Rattle.trace_text.specs.Text.{answer_text, call_text, fault_text, fault_words, line_fault_words, call_fault_words, asked_text, named, octets_text, path_text, said_text};
+ghost use Rattle.trace_text.specs.Text.{answer_text, call_text, fault_text, fault_words, line_fault_words, call_fault_words, asked_text, most_asked, octets_text, path_text, said_text};
 
 use crate::{Line, LineFault, TraceFault};
 use heap_core::{Answer, Call, CallFault, Octets, Path};
@@ -18,13 +18,13 @@ pub fn push_number(line: &mut Line, number: u64)
     line.push_str(buffer.format(number));
 }
 
-// Appends a space and a number.
-fn push_field(line: &mut Line, number: u64)
-    requires { array_string_len line.old + 21 ≤ 512 }
-    ensures bytes { line.new.bytes ≡ line.old.bytes ++ 32 ∷ decimal number }
-    ensures len { array_string_len line.new ≤ array_string_len line.old + 21 }
+// Appends words and a number.
+fn push_counted(line: &mut Line, words: &str, number: u64)
+    requires { array_string_len line.old + length words.now + 20 ≤ 512 }
+    ensures bytes { line.new.bytes ≡ line.old.bytes ++ (words.now ++ decimal number) }
+    ensures len { array_string_len line.new ≤ array_string_len line.old + length words.now + 20 }
 {
-    line.push_str(" ");
+    line.push_str(words);
     push_number(line, number);
 }
 
@@ -68,98 +68,74 @@ fn push_path(line: &mut Line, path: &Path)
     }
 }
 
-// A line that begins with a letter and a name.
-fn begin(letter: char, name: u32) -> Line
-    requires { letter < 128 }
-    ensures bytes { result.bytes ≡ named letter name }
-    ensures len { array_string_len result ≤ 22 }
+// Appends what stands in front of an answer: the letter of the call, and what tells it apart.
+fn push_asked(line: &mut Line, call: &Call)
+    requires { array_string_len line.old + 191 ≤ 512 }
+    ensures bytes { line.new.bytes ≡ line.old.bytes ++ asked_text call.now }
+    ensures len { array_string_len line.new ≤ array_string_len line.old + most_asked call.now }
 {
-    let mut line = Line::new();
-    line.push(letter);
-    push_field(&mut line, u64::from(name));
-    line
+    match call {
+        Call::Allocate { name, .. } => push_counted(line, "a ", u64::from(*name)),
+        Call::Aligned { name, .. } => push_counted(line, "l ", u64::from(*name)),
+        Call::Expand { name, .. } => push_counted(line, "e ", u64::from(*name)),
+        Call::Reallocate { name, .. } => push_counted(line, "r ", u64::from(*name)),
+        Call::Free { name } => push_counted(line, "f ", u64::from(*name)),
+        Call::FreeAll => line.push_str("z"),
+        Call::Owns { name } => push_counted(line, "o ", u64::from(*name)),
+        Call::OwnsAt { name, path } => {
+            push_counted(line, "p ", u64::from(*name));
+            line.push_str(" ");
+            push_path(line, path);
+        }
+        Call::Good { size } => push_counted(line, "g ", *size),
+        Call::Write { name, .. } => push_counted(line, "w ", u64::from(*name)),
+        Call::Read { name, .. } => push_counted(line, "d ", u64::from(*name)),
+    }
 }
 
-// A line of a letter, a name and a number.
-fn begin_with(letter: char, name: u32, number: u64) -> Line
-    requires { letter < 128 }
-    ensures bytes { result.bytes ≡ named letter name ++ 32 ∷ decimal number }
-    ensures len { array_string_len result ≤ 43 }
+// Appends what stands in a call's line behind what its answer begins with.
+#[tactic(auto, unfolding(crate::specs::Text::call_text))]
+fn push_rest(line: &mut Line, call: &Call)
+    requires begun { line.old.bytes ≡ asked_text call.now }
+    requires room { array_string_len line.old ≤ most_asked call.now }
+    ensures bytes { line.new.bytes ≡ call_text call.now }
+    ensures len { array_string_len line.new ≤ 256 }
 {
-    let mut line = begin(letter, name);
-    push_field(&mut line, number);
-    line
-}
-
-// A line of a letter, a name and a path.
-fn begin_path(letter: char, name: u32, path: &Path) -> Line
-    requires { letter < 128 }
-    ensures bytes { result.bytes ≡ named letter name ++ 32 ∷ path_text path.now }
-    ensures len { array_string_len result ≤ 191 }
-{
-    let mut line = begin(letter, name);
-    line.push_str(" ");
-    push_path(&mut line, path);
-    line
-}
-
-// A line of the letter that frees all.
-fn begin_free_all() -> Line
-    ensures bytes { result.bytes ≡ 122 ∷ [] }
-    ensures len { array_string_len result ≤ 1 }
-{
-    let mut line = Line::new();
-    line.push_str("z");
-    line
-}
-
-// A line that asks for the best size.
-fn begin_good(size: u64) -> Line
-    ensures bytes { result.bytes ≡ named 103 size }
-    ensures len { array_string_len result ≤ 22 }
-{
-    let mut line = Line::new();
-    line.push_str("g");
-    push_field(&mut line, size);
-    line
+    match call {
+        Call::Allocate { size, .. } | Call::Reallocate { size, .. } => push_counted(
+            line, " ", *size,
+        ),
+        Call::Aligned { size, align, .. } => {
+            push_counted(line, " ", *size);
+            push_counted(line, " ", *align);
+        }
+        Call::Expand { delta, .. } => push_counted(line, " ", *delta),
+        Call::Write { offset, bytes, .. } => {
+            push_counted(line, " ", *offset);
+            line.push_str(" ");
+            push_octets(line, bytes);
+        }
+        Call::Read { offset, len, .. } => {
+            push_counted(line, " ", *offset);
+            push_counted(line, " ", *len);
+        }
+        Call::Free { .. }
+        | Call::FreeAll
+        | Call::Owns { .. }
+        | Call::OwnsAt { .. }
+        | Call::Good { .. } => {}
+    }
 }
 
 /// The line that says a call, without its newline. `read_line` reads it back.
-#[tactic(auto, unfolding(crate::specs::Text::call_text))]
 pub fn print_call(call: &Call) -> Line
     ensures bytes { result.bytes ≡ call_text call.now }
     ensures len { array_string_len result ≤ 256 }
 {
-    match call {
-        Call::Allocate { name, size } => begin_with('a', *name, *size),
-        Call::Aligned { name, size, align } => {
-            let mut line = begin_with('l', *name, *size);
-            push_field(&mut line, *align);
-            line
-        }
-        Call::Expand { name, delta } => begin_with('e', *name, *delta),
-        Call::Reallocate { name, size } => begin_with('r', *name, *size),
-        Call::Free { name } => begin('f', *name),
-        Call::FreeAll => begin_free_all(),
-        Call::Owns { name } => begin('o', *name),
-        Call::OwnsAt { name, path } => begin_path('p', *name, path),
-        Call::Good { size } => begin_good(*size),
-        Call::Write {
-            name,
-            offset,
-            bytes,
-        } => {
-            let mut line = begin_with('w', *name, *offset);
-            line.push_str(" ");
-            push_octets(&mut line, bytes);
-            line
-        }
-        Call::Read { name, offset, len } => {
-            let mut line = begin_with('d', *name, *offset);
-            push_field(&mut line, *len);
-            line
-        }
-    }
+    let mut line = Line::new();
+    push_asked(&mut line, call);
+    push_rest(&mut line, call);
+    line
 }
 
 // Appends what is answered.
@@ -169,15 +145,12 @@ fn push_answer(line: &mut Line, call: &Call, answer: &Answer)
     ensures len { array_string_len line.new ≤ array_string_len line.old + 129 }
 {
     match answer {
-        Answer::Placed { place } => push_field(line, *place),
+        Answer::Placed { place } => push_counted(line, " ", *place),
         Answer::Null => line.push_str(" null"),
         Answer::Said { yes } => line.push_str(if *yes { " true" } else { " false" }),
-        Answer::Moved { place } => {
-            line.push_str(" true");
-            push_field(line, *place);
-        }
+        Answer::Moved { place } => push_counted(line, " true ", *place),
         Answer::Gone => line.push_str(" gone"),
-        Answer::Size { size } => push_field(line, *size),
+        Answer::Size { size } => push_counted(line, " ", *size),
         Answer::Done => line.push_str(match call {
             Call::FreeAll => " done",
             _ => " ok",
@@ -189,48 +162,16 @@ fn push_answer(line: &mut Line, call: &Call, answer: &Answer)
     }
 }
 
-// What stands in front of an answer: the letter of the call, and what tells it apart.
-fn begin_answer(call: &Call) -> Line
-    ensures bytes { result.bytes ≡ asked_text call.now }
-    ensures len { array_string_len result ≤ 191 }
+/// Makes the line the one that answers a call, with its newline, in place of what it held: the letter of the call, the
+/// name, path or size that it asks about, and the answer. A place is an offset in the area in bytes.
+#[tactic(auto, unfolding(crate::specs::Text::answer_text), using(crate::proofs::Printing::most_asked_le))]
+pub fn answer_line(line: &mut Line, call: &Call, answer: &Answer)
+    ensures { line.new.bytes ≡ answer_text call.now answer.now }
 {
-    match call {
-        Call::Allocate { name, size: _ } => begin('a', *name),
-        Call::Aligned {
-            name,
-            size: _,
-            align: _,
-        } => begin('l', *name),
-        Call::Expand { name, delta: _ } => begin('e', *name),
-        Call::Reallocate { name, size: _ } => begin('r', *name),
-        Call::Free { name } => begin('f', *name),
-        Call::FreeAll => begin_free_all(),
-        Call::Owns { name } => begin('o', *name),
-        Call::OwnsAt { name, path } => begin_path('p', *name, path),
-        Call::Good { size } => begin_good(*size),
-        Call::Write {
-            name,
-            offset: _,
-            bytes: _,
-        } => begin('w', *name),
-        Call::Read {
-            name,
-            offset: _,
-            len: _,
-        } => begin('d', *name),
-    }
-}
-
-/// The line that answers a call, with its newline: the letter of the call, the name, path or size that it asks about,
-/// and the answer. A place is an offset in the area in bytes.
-#[tactic(auto, unfolding(crate::specs::Text::answer_text))]
-pub fn answer_line(call: &Call, answer: &Answer) -> Line
-    ensures { result.bytes ≡ answer_text call.now answer.now }
-{
-    let mut line = begin_answer(call);
-    push_answer(&mut line, call, answer);
+    line.clear();
+    push_asked(line, call);
+    push_answer(line, call, answer);
     line.push_str("\n");
-    line
 }
 
 // Appends words and a column.
@@ -239,8 +180,7 @@ fn push_column(line: &mut Line, words: &str, column: u32)
     ensures bytes { line.new.bytes ≡ line.old.bytes ++ (words.now ++ decimal column) }
     ensures len { array_string_len line.new ≤ array_string_len line.old + length words.now + 20 }
 {
-    line.push_str(words);
-    push_number(line, u64::from(column));
+    push_counted(line, words, u64::from(column));
 }
 
 // Appends what the fault of a line is called.
@@ -280,8 +220,7 @@ pub fn fault_line(number: u64, fault: &TraceFault) -> Line
     ensures { result.bytes ≡ fault_text number fault.now }
 {
     let mut line = Line::new();
-    line.push_str("line ");
-    push_number(&mut line, number);
+    push_counted(&mut line, "line ", number);
     line.push_str(": ");
     match fault {
         TraceFault::Line { fault } => push_line_fault(&mut line, fault),

@@ -1,5 +1,5 @@
 // What no clause says: that the grammar and the texts are the ones that were meant.
-use crate::{LineFault, TraceFault, answer_line, fault_line, print_call, read_line};
+use crate::{Line, LineFault, TraceFault, answer_line, fault_line, print_call, read_line};
 use heap_core::{Answer, Call, CallFault, Octets};
 
 // Each call, in its own spelling and in an odd one.
@@ -181,13 +181,13 @@ fn answers() -> [(&'static str, Answer, &'static str); 20] {
 
 #[test]
 fn answers_are_printed(rt: HostRuntime) {
+    let mut formed = Line::new();
     for (row, (line, answer, want)) in answers().into_iter().enumerate() {
         match read_line(line.as_bytes()) {
-            Ok(Some(call)) => assert_eq!(rt;
-                answer_line(&call, &answer).as_str(),
-                want,
-                "in row {row}"
-            ),
+            Ok(Some(call)) => {
+                answer_line(&mut formed, &call, &answer);
+                assert_eq!(rt; formed.as_str(), want, "in row {row}");
+            }
             _ => panic!(rt; "no call in row {row}"),
         }
     }

@@ -1,10 +1,10 @@
 // What a field may say: a number, a path or bytes.
-ghost use Rattle.std.specs.Prelude.{◌≡◌, ◌≤◌, ◌<◌, ◌^◌, ◌∷◌, ◌&&◌, true, nat_le, length, IfOk, IfSome};
+ghost use Rattle.std.specs.Prelude.{◌≡◌, ◌≤◌, ◌<◌, ◌+◌, ◌*◌, ◌^◌, ◌∷◌, ◌&&◌, true, nat_le, length, take, None, IfOk, IfNone, IfSome};
 ghost use Rattle.std.specs.Char.{digit_value, is_ascii_digit, is_ascii_hexdigit};
-ghost use Rattle.std.specs.List.{list_all, position};
+ghost use Rattle.std.specs.List.{list_all, position, prefix_len};
 ghost use Rattle.std.specs.Option.{SomeIff, option_copied};
-ghost use Rattle.std.specs.Str.Parse.{AllDigits, digits_value};
-ghost use Rattle.trace_text.specs.Grammar.{has_octets, is_path, alignment_in, count_in, is_alignment, is_numeral, is_point, number_in, number_to, octets_in, path_in, steps_of};
+ghost use Rattle.std.specs.Str.Parse.{digits_value};
+ghost use Rattle.trace_text.specs.Grammar.{has_octets, is_path, alignment_in, count_in, is_alignment, is_numeral, is_point, most_number, number_in, number_to, octets_in, path_in, steps_of};
 ghost use Rattle.trace_text.specs.Steps.{steps_left};
 
 use crate::LineFault;
@@ -33,17 +33,28 @@ fn is_numeral(text: &[u8]) -> bool
     !text.is_empty() && are_digits(text)
 }
 
-// The number that digits stand for, with zeros in front or not, where it is at most so large.
-#[tactic(auto, using(crate::proofs::Numbers::digit_rules))]
-fn read_digits(most: u64, text: &[u8]) -> Option<u64>
-    ensures { SomeIff result (AllDigits 10 text.now × (digits_value 10 text.now ≤ most)) (digits_value 10 text.now) }
+// A number with one digit more, unless that or the number itself is too large.
+fn with_digit(number: Option<u64>, digit: u8) -> Option<u64>
+    requires { is_ascii_digit digit ≡ true }
+    ensures more { IfSome number (λ n. SomeIff result (n * 10 + digit_value digit ≤ most_number) (n * 10 + digit_value digit)) }
+    ensures none { IfNone number (result ≡ None) }
 {
-    let mut value: u64 = 0;
-    for byte in text {
-        let digit = char::from(*byte).to_digit(10)?;
-        value = value.checked_mul(10)?.checked_add(u64::from(digit))?;
+    let value = digit - b'0';
+    number?.checked_mul(10)?.checked_add(u64::from(value))
+}
+
+// How many digits stand in front, and the number that they stand for, unless it is too large.
+fn leading_number(text: &[u8]) -> (usize, Option<u64>)
+    ensures len { result.0 ≡ prefix_len is_ascii_digit text.now }
+    ensures number { SomeIff result.1 (digits_value 10 (take result.0 text.now) ≤ most_number) (digits_value 10 (take result.0 text.now)) }
+{
+    let mut len = 0;
+    let mut number = Some(0);
+    while len < text.len() && text[len].is_ascii_digit() {
+        number = with_digit(number, text[len]);
+        len += 1;
     }
-    if value <= most { Some(value) } else { None }
+    (len, number)
 }
 
 /// The number that a field says, which is at most so large.
@@ -52,16 +63,14 @@ pub(crate) fn number_to(most: u64, field: Field<'_>) -> Result<u64, LineFault>
     ensures read { result ≡ number_to most field.entry.column field.entry.text.now }
     ensures most { IfOk result (λ n. n ≤ most) }
 {
-    if !is_numeral(field.text) {
-        return Err(LineFault::BadLine {
-            column: field.column,
-        });
+    let column = field.column;
+    let (len, number) = leading_number(field.text);
+    if len == 0 || len < field.text.len() {
+        return Err(LineFault::BadLine { column });
     }
-    match read_digits(most, field.text) {
-        Some(number) => Ok(number),
-        None => Err(LineFault::NumberTooLarge {
-            column: field.column,
-        }),
+    match number {
+        Some(number) if number <= most => Ok(number),
+        _ => Err(LineFault::NumberTooLarge { column }),
     }
 }
 

@@ -1,71 +1,8 @@
-use Rattle.std.proofs.Common.{arith, take, length, length-take-le, ap, ◌∙◌, refl}
-use Rattle.play_core.specs.Ends.{run_at, rules_at}
-use Rattle.play_core.specs.Place.{place_of}
-use Rattle.play_core.proofs.Running.{going_at_start, going_more, going_stops, going_breaks, going_ends, fed_far, fed_along, finish_along, ended, not_ended, takes_nothing, took_few, falls}
-use Rattle.play_core.specs.declared.Step.TheVariants as step
+use Rattle.play_core.proofs.HandingOn.{good_handed_on, trace_handed_on}
 use Rattle.play_core.proofs.replaying.replay.Goals as goal
 
-pub taking-init : goal.taking-init
-taking-init g c = record {
-  going = going_at_start _ c.new-reader.result _ _ _ c.new-reader.ensures.number c.new-reader.ensures.before c.new-reader.ensures.begun c.requires.opened;
-  held = c.requires.held;
-  rules = refl;
-}
+pub returns-in-Good-clause-ran : goal.returns-in-Good-clause-ran
+returns-in-Good-clause-ran g c = good_handed_on _ _ _ _ _ _ _ _ c.hand_on.result c.in-Good.ensures.ran c.hand_on.ensures.hands_on
 
-pub returns-then-count-eq0 : goal.returns-then-count-eq0
-returns-then-count-eq0 g c =
-    let p = place_of c.taking.reader (run_at g.L.Layer.model c.taking.heap c.taking.space) in
-    let t = run_at g.L.Layer.model c.finish.new.heap c.finish.new.space in
-    record {
-      ran = going_ends (rules_at g.L.Layer.model c.args.heap.now) _ t _ _ _ _ _ _ p c.finish.result c.taking.invariant.going
-          (takes_nothing _ _ c.take.new.into c.in-Ok.count c.in-Ok.ensures.taken c.if-count-eq0.true)
-          (c.in-Ok.ensures.end c.if-count-eq0.true)
-          c.in-Ok.ensures.counted
-          (ended c.in-Ok.count _ c.in-Ok.ensures.finished c.if-count-eq0.true) c.taking.reader.within
-          (finish_along (rules_at g.L.Layer.model c.args.heap.now) (rules_at g.L.Layer.model c.taking.heap) p t _ _ c.finish.result c.taking.invariant.rules c.finish.ensures.finishes);
-      held = c.finish.ensures.held;
-      rules = c.finish.ensures.rules ∙ c.taking.invariant.rules;
-    }
-
-pub taking-smaller : goal.taking-smaller
-taking-smaller g c =
-    let p = place_of c.taking.reader (run_at g.L.Layer.model c.taking.heap c.taking.space) in
-    let q = place_of c.feed_all.new.reader (run_at g.L.Layer.model c.feed_all.new.heap c.feed_all.new.space) in
-    falls _ _ c.in-Ok.count 16777216 _ (fed_far _ p q c.front.result.now _ _ c.in-Goes.ensures.fed)
-    (ap length c.front.ensures ∙ length-take-le c.in-Ok.count c.take.new.into c.in-Ok.ensures.bound)
-    (omega (arith, c.if-count-eq0.false)) c.taking.reader.within
-
-pub taking-preserved : goal.taking-preserved
-taking-preserved g c =
-    let p = place_of c.taking.reader (run_at g.L.Layer.model c.taking.heap c.taking.space) in
-    let q = place_of c.feed_all.new.reader (run_at g.L.Layer.model c.feed_all.new.heap c.feed_all.new.space) in
-    record {
-      going = going_more _ _ _ _ _ _ _ _ p q (take c.in-Ok.count c.take.new.into) c.taking.invariant.going c.in-Ok.ensures.taken c.in-Ok.ensures.counted
-          (not_ended c.in-Ok.count _ c.in-Ok.ensures.finished c.if-count-eq0.false) (fed_along _ _ p q _ c.front.result.now _ _ step.Goes c.taking.invariant.rules c.front.ensures c.in-Goes.ensures.fed);
-      held = c.in-Goes.ensures.held;
-      rules = c.in-Goes.ensures.rules ∙ c.taking.invariant.rules;
-    }
-
-pub returns-in-Stops : goal.returns-in-Stops
-returns-in-Stops g c =
-    let p = place_of c.taking.reader (run_at g.L.Layer.model c.taking.heap c.taking.space) in
-    let q = place_of c.feed_all.new.reader (run_at g.L.Layer.model c.feed_all.new.heap c.feed_all.new.space) in
-    record {
-      ran = going_stops _ _ _ _ _ _ _ _ p q (take c.in-Ok.count c.take.new.into) c.taking.invariant.going c.in-Ok.ensures.taken c.in-Ok.ensures.counted
-          (not_ended c.in-Ok.count _ c.in-Ok.ensures.finished c.if-count-eq0.false)
-          (took_few c.in-Ok.count c.take.new.into c.taking.room c.min-want.result c.taking.reader.before (length c.taking.reader.begun.items) c.len.result c.take.auto.into c.min-want.ensures c.len.ensures.value) c.taking.reader.within (fed_along _ _ p q _ c.front.result.now _ _ step.Stops c.taking.invariant.rules c.front.ensures c.in-Stops.ensures.fed);
-      held = c.in-Stops.ensures.held;
-      rules = c.in-Stops.ensures.rules ∙ c.taking.invariant.rules;
-    }
-
-pub returns-in-SinkFailed : goal.returns-in-SinkFailed
-returns-in-SinkFailed g c =
-    let p = place_of c.taking.reader (run_at g.L.Layer.model c.taking.heap c.taking.space) in
-    let q = place_of c.feed_all.new.reader (run_at g.L.Layer.model c.feed_all.new.heap c.feed_all.new.space) in
-    record {
-      ran = going_breaks _ _ _ _ _ _ _ _ p q (take c.in-Ok.count c.take.new.into) c.taking.invariant.going c.in-Ok.ensures.taken c.in-Ok.ensures.counted
-          (not_ended c.in-Ok.count _ c.in-Ok.ensures.finished c.if-count-eq0.false)
-          (took_few c.in-Ok.count c.take.new.into c.taking.room c.min-want.result c.taking.reader.before (length c.taking.reader.begun.items) c.len.result c.take.auto.into c.min-want.ensures c.len.ensures.value) c.taking.reader.within (fed_along _ _ p q _ c.front.result.now _ _ step.SinkFailed c.taking.invariant.rules c.front.ensures c.in-SinkFailed.ensures.fed);
-      held = c.in-SinkFailed.ensures.held;
-      rules = c.in-SinkFailed.ensures.rules ∙ c.taking.invariant.rules;
-    }
+pub returns-in-Trace-clause-ran : goal.returns-in-Trace-clause-ran
+returns-in-Trace-clause-ran g c = trace_handed_on _ _ _ _ _ _ _ _ c.hand_on-in-Trace.result c.in-Trace.ensures.ran c.hand_on-in-Trace.ensures.hands_on

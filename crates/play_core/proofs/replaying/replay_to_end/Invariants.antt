@@ -3,7 +3,7 @@ use Rattle.play_core.specs.Devices.{reading, writing}
 use Rattle.play_core.specs.Ends.{run_at, rules_at, HeldAt}
 use Rattle.play_core.specs.Place.{place_of}
 use Rattle.play_core.proofs.Running.{Going}
-use Rattle.play_core.proofs.replaying.replay.Given as goal
+use Rattle.play_core.proofs.replaying.replay_to_end.Given as goal
 
 -- some bytes were taken, and led to where the reader is
 abbrev pub invariant-taking : goal.invariant-taking
