@@ -5,7 +5,7 @@ use Rattle.std.proofs.lemmas.Bool.Decides.{nat_tests}
 use Rattle.std.proofs.lemmas.List.{ext_get_or, get_or-map, get_or_past, length-map}
 use Rattle.space_core.specs.CellRuns.{length-put_run}
 use Rattle.space_core.specs.Runs.{put_run}
-use Rattle.space_core.proofs.Reading.{put-inside, put-outside}
+use Rattle.space_core.proofs.Rows.{put-inside, put-outside}
 
 abbrev pub freed : (tag t : ℕ) → ℕ
 freed tag t = cond (nat_eq t tag) 0 t

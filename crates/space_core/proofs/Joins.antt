@@ -1,5 +1,5 @@
 -- What the summary of two rows of positions is, from those of each.
-use Rattle.std.proofs.Common.{ℕ, ◌≡◌, ◌+◌, ◌-◌, ◌≤◌, ◌<◌, Bool, true, false, nat_eq, cond, List, get_or, subst, refl, inl, inr, ◌⊎◌, max, arith}
+use Rattle.std.proofs.Common.{ℕ, ◌≡◌, ◌+◌, ◌-◌, ◌≤◌, ◌<◌, Bool, true, false, nat_eq, cond, List, get_or, subst, refl, sym, ◌∙◌, inl, inr, ◌⊎◌, max, arith}
 use Rattle.std.proofs.lemmas.Bool.Decides.{nat_tests}
 use Rattle.std.proofs.lemmas.Bool.{cases_lt}
 use Rattle.space_core.specs.Summaries.{IsFree, IsSummary, leaf_of}
@@ -53,9 +53,6 @@ back_ends us p m n f g a b x y r h k e j u q = at (cases_lt b n)
         h.back_ends j (omega arith) (omega arith)
 
 -- ---- the longest run
-
-free-part : (us : List Bool) (c m d n : ℕ) → IsFree us c m → c ≤ d → d + n ≤ c + m → IsFree us d n
-free-part us c m d n h a b j l u = h j (omega arith) (omega arith)
 
 -- a run that reaches the end of a row is no longer than the free run at its back, and likewise at the front
 reaches_back : (us : List Bool) (p m f a x c n : ℕ) → IsSummary us p m f a x → IsFree us c n → p ≤ c → c ≤ p + m → p + m ≤ c + n → p + m ≤ c + a
@@ -127,6 +124,20 @@ summary-join us p m n f g a b x y h k = record {
 
     behind : (f m g n : ℕ) → f ≤ m → g ≤ n → cond (nat_eq g n) (n + f) g ≤ m + n
     behind f m g n a b = grind (arith, nat_tests)
+
+-- ---- a row that is the same there
+
+pub summary-same : (us vs : List Bool) (p n f b e : ℕ) → ((j : ℕ) → p ≤ j → j < p + n → get_or us j true ≡ get_or vs j true) → IsSummary us p n f b e → IsSummary vs p n f b e
+summary-same us vs p n f b e q h = record {
+  front_within = h.front_within;
+  front_free = λ j l u. sym (q j l (omega (arith, h.front_within))) ∙ h.front_free j l u;
+  front_ends = λ l. sym (q (p + f) (omega arith) (omega arith)) ∙ h.front_ends l;
+  back_within = h.back_within;
+  back_free = λ j l u. sym (q j (omega (arith, h.back_within)) u) ∙ h.back_free j l u;
+  back_ends = λ j l z. sym (q j (omega arith) (omega arith)) ∙ h.back_ends j l z;
+  best_found = let r = h.best_found in (r.0, r.1, r.2, λ j l u. sym (q j (omega (arith, r.1)) (omega (arith, r.2))) ∙ r.3 j l u);
+  best_most = λ c m l u z. h.best_most c m l u (λ j x y. q j (omega arith) (omega arith) ∙ z j x y);
+}
 
 -- ---- one position
 

@@ -1,5 +1,5 @@
 -- The search for the least run, node by node from left to right.
-use Rattle.std.proofs.Common.{ℕ, zero, suc, ◌≡◌, ◌+◌, ◌-◌, ◌*◌, ◌^◌, ◌≤◌, ◌<◌, Bool, true, false, ◌&&◌, nat_eq, nat_le, cond, List, [], ◌∷◌, length, get_or, Some, None, refl, ap, sym, ◌∙◌, inl, inr, ◌⊎◌, arith}
+use Rattle.std.proofs.Common.{ℕ, zero, suc, ◌≡◌, ◌+◌, ◌-◌, ◌*◌, ◌/◌, ◌^◌, ◌≤◌, ◌<◌, Bool, true, false, ◌&&◌, nat_eq, nat_le, cond, List, [], ◌∷◌, length, get_or, Some, None, refl, ap, sym, ◌∙◌, inl, inr, ◌⊎◌, arith}
 use Rattle.std.proofs.lemmas.Bool.{cases_lt, and_from, and_left, and_right}
 use Rattle.std.proofs.lemmas.Bool.Decides.{nat_tests}
 use Rattle.std.proofs.lemmas.Nat.{pow_pos, pow-add}
@@ -7,11 +7,12 @@ use Rattle.std.proofs.lemmas.List.{get_or_past}
 use Rattle.std.proofs.Math.Nat.{pow-suc, mul-le-mul_right}
 use Rattle.std.proofs.Math.Pow.{pow_mono}
 use Rattle.space_core.specs.Runs.{starts_free, first_run}
-use Rattle.space_core.specs.declared.tree.Segment.{Segment}
-use Rattle.space_core.specs.Summaries.{IsFree, IsSummary}
-use Rattle.space_core.specs.Trees.{IsTree, node_at}
-use Rattle.space_core.proofs.Reading.{tells}
+use Rattle.std.specs.Int.{IsPowerOfTwo}
 use Rattle.space_core.specs.CellRuns.{passed, found}
+use Rattle.space_core.specs.declared.tree.Summary.{Summary}
+use Rattle.space_core.specs.Summaries.{IsFree, IsSummary, SumsUp}
+use Rattle.space_core.specs.Trees.{IsNode, IsTree, node_at}
+use Rattle.space_core.proofs.Nodes.{twice}
 
 pub both : {b : Bool} → b ≡ false → b ≡ true → ⊥
 both x y = cc
@@ -199,68 +200,61 @@ inside D d i p w a o b l = by (cases_lt D d)
         let e : (D - d) + d ≡ D = omega arith in
         over i (2 ^ (D - d)) (2 ^ d) w p (a ∙ ap (λ n. 2 ^ n) (sym e) ∙ pow-add 2 (D - d) d) b l (pow_pos d)
 
-pub in-table : (d i p w : ℕ) → i * 2 ^ d ≡ w + p → p < w → i < 2 * w
-in-table d i p w b l = by (cases_lt i (2 * w))
-  where
-    by : (i < 2 * w) ⊎ (2 * w ≤ i) → i < 2 * w
-    by (inl q) = q
-    by (inr q) = absurd (omega (arith, b, grown i (2 ^ d) (pow_pos d)))
-      where
-        grown : (i x : ℕ) → 1 ≤ x → i ≤ i * x
-        grown i zero h = absurd (omega arith)
-        grown i (suc x) h = omega arith
-
 -- the search goes right, or down
-pub measure : (w at node : ℕ) → ℕ
-measure w at node = (w - at) * (4 * w) + (2 * w - node)
+pub measure : (w at len : ℕ) → ℕ
+measure w at len = (w - at) * (4 * w) + len
 
-pub goes-right : (w at node n next : ℕ) → 1 ≤ n → at + n ≤ w → measure w (at + n) next < measure w at node
+pub goes-right : (w at len next : ℕ) → 1 ≤ len → at + len ≤ w → next ≤ 2 * w → measure w (at + len) next < measure w at len
 unfolding measure
-goes-right w at node n next o l =
-    let a = w - at in
-    let b = w - (at + n) in
-    let h : b + 1 ≤ a = omega arith in
+goes-right w at len next o l m =
+    let h : (w - (at + len)) + 1 ≤ w - at = omega arith in
     omega (arith, mul-le-mul_right (4 * w) h)
 
-pub goes-down : (w at node : ℕ) → 1 ≤ node → node < 2 * w → measure w at (2 * node) < measure w at node
+pub goes-down : (w at len : ℕ) → 1 ≤ len → measure w at (len / 2) < measure w at len
 unfolding measure
-goes-down w at node o l = omega arith
+goes-down w at len o = omega arith
 
--- the node of a search, by what its place tells
-pub record Stands (us : List Bool) (nodes : List Segment) (w node at : ℕ) : Type 0 where
-  pub table : node < 2 * w
-  pub some : 1 ≤ (node_at nodes node).len
-  pub fits : at + (node_at nodes node).len ≤ w
-  pub power : (d : ℕ) × ((node_at nodes node).len ≡ 2 ^ d) × (node * 2 ^ d ≡ w + at)
-  pub summary : IsSummary us at (node_at nodes node).len (node_at nodes node).front (node_at nodes node).back (node_at nodes node).best
+-- a node at a position of the tree, or at its end
+pub record IsPlace (w node len at : ℕ) : Type 0 where
+  pub power : IsPowerOfTwo len
+  pub place : node * len ≡ w + at
+  pub within : at ≤ w
 
-abbrev pub IsPlace : (w node at : ℕ) → Type 0
-IsPlace w node at = (d : ℕ) × (node * 2 ^ d ≡ w + at)
-
-pub stands : (us : List Bool) (nodes : List Segment) (w node at : ℕ) → IsTree us nodes w → 1 ≤ node → IsPlace w node at → at < w → Stands us nodes w node at
-stands us nodes w node at t o p l =
-    let f : at + 2 ^ p.0 ≤ w = inside t.power.0 p.0 node at w t.power.1 o p.1 l in
-    let n = tells us nodes w t p.0 node at o p.1 f in
-    record {
-      table = in-table p.0 node at w p.1 l;
-      some = omega (arith, n.len, pow_pos p.0);
-      fits = omega (arith, n.len);
-      power = (p.0, n.len, p.1);
-      summary = rw n.len n.summary;
-    }
-
-pub place-down : (us : List Bool) (nodes : List Segment) (w node at run k : ℕ) → Stands us nodes w node at → run + (node_at nodes node).front < k → k ≤ (node_at nodes node).best → IsPlace w (node * 2) at
-place-down us nodes w node at run k s a b = by s.power.0 s.power.1 s.power.2
+pub place-node : (w node len at : ℕ) → IsPowerOfTwo w → IsPlace w node len at → at < w → IsNode w node at len
+place-node w node len at o h l =
+    let e : node * 2 ^ h.power.0 ≡ w + at = rw h.power.1 at h.place in
+    let i : at + 2 ^ h.power.0 ≤ w = inside o.0 h.power.0 node at w o.1 (some-node node (omega (arith, h.place, l))) e l in
+    record { power = h.power; place = h.place; within = omega (arith, i, h.power.1) }
   where
-    by : (d : ℕ) → (node_at nodes node).len ≡ 2 ^ d → node * 2 ^ d ≡ w + at → IsPlace w (node * 2) at
-    by zero e q = absurd (omega (arith, leaf-best us at (node_at nodes node).len (node_at nodes node).front (node_at nodes node).back (node_at nodes node).best (omega (arith, e)) s.summary))
-    by (suc d) e q = (d, omega (arith, q, ap (λ x. node * x) (pow-suc 2 d)))
+    some-node : (i : ℕ) → 1 ≤ i * len → 1 ≤ i
+    some-node zero x = absurd (omega arith)
+    some-node (suc i) x = omega arith
 
-pub place-behind : (us : List Bool) (nodes : List Segment) (w node at next : ℕ) → Stands us nodes w node at → (next ≡ node + 1) ⊎ (2 * next ≡ node + 1) → IsPlace w next (at + (node_at nodes node).len)
-place-behind us nodes w node at next s (inl e) =
-    (s.power.0, let z : next * 2 ^ s.power.0 ≡ (node + 1) * 2 ^ s.power.0 = ap (λ n. n * 2 ^ s.power.0) e in omega (arith, z, s.power.1, s.power.2))
-place-behind us nodes w node at next s (inr e) =
-    (suc s.power.0, let z : (2 * next) * 2 ^ s.power.0 ≡ (node + 1) * 2 ^ s.power.0 = ap (λ n. n * 2 ^ s.power.0) e in let y : next * 2 ^ suc s.power.0 ≡ next * (2 ^ s.power.0 * 2) = ap (λ n. next * n) (pow-suc 2 s.power.0) in omega (arith, z, y, s.power.1, s.power.2))
+-- what the node of a search says, and of which positions
+pub record Stands (us : List Bool) (w node len at : ℕ) (s : Summary) : Type 0 where
+  pub is_node : IsNode w node at len
+  pub sums : SumsUp us at len s
+
+pub stands : (us : List Bool) (nodes : List Summary) (node len at : ℕ) (s : Summary) → IsTree us nodes → IsPlace (length nodes) node len at → at < length nodes → s ≡ node_at us nodes node → Stands us (length nodes) node len at s
+stands us nodes node len at s t h l e =
+    let n = place-node (length nodes) node len at t.width.0 h l in record { is_node = n; sums = rw e (t.tells node at len n) }
+
+pub place-below : (us : List Bool) (w node len at run k f b e : ℕ) → IsPlace w node len at → IsSummary us at len f b e → run + f < k → k ≤ e → IsPlace w (2 * node) (len / 2) at
+place-below us w node len at run k f b e h s l m = by h.power.0 h.power.1
+  where
+    by : (d : ℕ) → len ≡ 2 ^ d → IsPlace w (2 * node) (len / 2) at
+    by zero q = absurd (omega (arith, leaf-best us at len f b e (omega (arith, q)) s))
+    by (suc d) q =
+        let z : len ≡ 2 * 2 ^ d = omega (arith, q, pow-suc 2 d) in
+        let y : len / 2 ≡ 2 ^ d = omega (arith, z) in
+        let x : node * (2 * 2 ^ d) ≡ w + at = rw z at h.place in
+        record { power = (d, y); place = rw y (omega (arith, x)); within = h.within }
+
+pub place-behind : (w node len at next more : ℕ) → IsNode w node at len → ((next ≡ node + 1) × (more ≡ len)) ⊎ ((2 * next ≡ node + 1) × (more ≡ 2 * len)) → IsPlace w next more (at + len)
+place-behind w node len at next more h (inl e) = rw (e.0, e.1) (record { power = h.power; place = omega (arith, h.place); within = h.within })
+place-behind w node len at next more h (inr e) =
+    let z : (2 * next) * len ≡ (node + 1) * len = ap (λ n. n * len) e.0 in
+    rw (e.1) (record { power = twice h.power; place = omega (arith, z, h.place); within = h.within })
 
 -- a free position is there
 pub free-there : (us : List Bool) (j : ℕ) → get_or us j true ≡ false → j < length us
@@ -368,6 +362,3 @@ least-some us from k at o e = by (first-tells (λ i. nat_le from i) k 0 us o)
           there = free-there us at (f at (omega arith) (omega arith));
           none = λ c l m g. r.1.none c (omega arith) (allows from (0 + c) (omega arith)) g;
         }
-
-pub past-free : (us : List Bool) (c k : ℕ) → 1 ≤ k → length us ≤ c → IsFree us c k → ⊥
-past-free us c k o l f = both (f c (omega arith) (omega arith)) (get_or_past us c true l)

@@ -1,6 +1,6 @@
 -- Summaries: what a node of a tree of runs says of its positions, each taken (true) or free (false).
 use Rattle.std.specs.Prelude.{ℕ, ◌≡◌, ◌+◌, ◌≤◌, ◌<◌, Bool, true, false, List, slice_index_or, cond, nat_eq, max}
-use Rattle.space_core.specs.declared.tree.Segment.{Segment}
+use Rattle.space_core.specs.declared.tree.Summary.{Summary}
 
 -- each of the m positions from c on is there and free
 abbrev pub IsFree : List Bool → (c m : ℕ) → Type 0
@@ -17,16 +17,19 @@ pub record IsSummary (us : List Bool) (p n front back best : ℕ) : Type 0 where
   pub best_found : (c : ℕ) × (p ≤ c) × (c + best ≤ p + n) × IsFree us c best
   pub best_most : (c m : ℕ) → p ≤ c → c + m ≤ p + n → IsFree us c m → m ≤ best
 
--- the node of one position
-abbrev pub leaf_of : Bool → Segment
-leaf_of taken = record { len = 1; front = cond taken 0 1; back = cond taken 0 1; best = cond taken 0 1 }
+-- what it says of the n positions from p on is so
+abbrev pub SumsUp : List Bool → (p n : ℕ) → Summary → Type 0
+SumsUp us p n s = IsSummary us p n s.front s.back s.best
 
--- the node of the positions of two
-abbrev pub join_of : Segment → Segment → Segment
-join_of a b = record {
-  len = a.len + b.len;
-  front = cond (nat_eq a.front a.len) (a.len + b.front) a.front;
-  back = cond (nat_eq b.back b.len) (b.len + a.back) b.back;
+-- the summary of one position
+abbrev pub leaf_of : Bool → Summary
+leaf_of taken = record { front = cond taken 0 1; back = cond taken 0 1; best = cond taken 0 1 }
+
+-- the summary of the positions of two, of n positions each
+abbrev pub join_of : (n : ℕ) → Summary → Summary → Summary
+join_of n a b = record {
+  front = cond (nat_eq a.front n) (n + b.front) a.front;
+  back = cond (nat_eq b.back n) (n + a.back) b.back;
   best = max (max a.best b.best) (a.back + b.front);
 }
 

@@ -1,10 +1,10 @@
 //! A tree of summaries over numbered positions, by which runs of free positions are found.
-ghost use Rattle.std.specs.Prelude.{◌≡◌, ◌≢◌, ℕ, List, Bool, ◌+◌, ◌*◌, ◌/◌, ◌≤◌, ◌<◌, ◌^◌, true, false, not, length, replicate, slice_index, slice_index_or, slice_set, nat_le, nat_eq, cond, ◌⊎◌, IfOk, IfSome};
-ghost use Rattle.std.specs.Int.{IsNextPowerOfTwo};
+ghost use Rattle.std.specs.Prelude.{◌≡◌, ◌≢◌, ℕ, ◌+◌, ◌*◌, ◌/◌, ◌≤◌, ◌<◌, ◌^◌, true, false, not, length, replicate, slice_index, slice_index_or, slice_set, nat_le, nat_eq, cond, ◌⊎◌, IfOk, IfSome};
+ghost use Rattle.std.specs.Int.{IsPowerOfTwo, IsNextPowerOfTwo};
 ghost use Rattle.space_core.specs.Memory.{most_cells};
 ghost use Rattle.space_core.specs.Runs.{first_run, put_run};
 ghost use Rattle.space_core.specs.Summaries.{IsSummary, IsLongest, leaf_of, join_of};
-ghost use Rattle.space_core.specs.Trees.{IsNodes, IsTree, Covers, Agrees, node_at};
+ghost use Rattle.space_core.specs.Trees.{IsNode, IsTree, Covers, Tells, node_at};
 
 use crate::NoMemory;
 use crate::runs::put_run;
@@ -19,15 +19,59 @@ pub struct Summary {
     pub best: u32,
 }
 
+impl Summary {
+    /// The summary of one position.
+    fn leaf(taken: bool) -> Summary
+        ensures { result ≡ leaf_of taken }
+    {
+        let run = if taken { 0 } else { 1 };
+        Summary {
+            front: run,
+            back: run,
+            best: run,
+        }
+    }
+
+    /// The summary of the positions of two, which have `len` positions each.
+    fn join(len: u32, a: Summary, b: Summary) -> Summary
+        requires len { 2 * len < 2 ^ 32 }
+        requires front { b.front ≤ len }
+        requires back { a.back ≤ len }
+        ensures { result ≡ join_of len a b }
+    {
+        Summary {
+            front: if a.front == len {
+                len + b.front
+            } else {
+                a.front
+            },
+            back: if b.back == len { len + a.back } else { b.back },
+            best: a.best.max(b.best).max(a.back + b.front),
+        }
+    }
+
+    /// How many free positions stand just before the end of these `len`, where so many stand just before them.
+    fn run_behind(self, len: u32, run: u32) -> u32
+        requires { run + len < 2 ^ 32 }
+        ensures { result ≡ cond (nat_eq self.front len) (run + len) self.back }
+    {
+        if self.front == len {
+            run + len
+        } else {
+            self.back
+        }
+    }
+}
+
 /// A row of numbered positions, each free or taken, in which runs of free positions are found.
 ///
-/// Contracts see a list, in which true is taken. It is kept as a complete tree: node 1 is the root, and the children
-/// of node `i` are `2 * i` and `2 * i + 1`.
+/// Contracts see a list, in which true is taken. Over it stands a complete tree: node 1 is the root, and the children
+/// of node `i` are `2 * i` and `2 * i + 1`. Each node with children has its summary kept under its number, so there
+/// are as many, with an unused one for 0, as the tree has leaves. What a leaf says is read off the row.
 #[derive(Drop)]
 pub struct RunTree {
     taken: Vec<bool>,
-    nodes: Vec<Segment>,
-    width: usize,
+    nodes: Vec<Summary>,
 }
 
 impl Model for RunTree {
@@ -38,7 +82,7 @@ impl Model for RunTree {
 
     ghost view = { λ a. a.taken.items };
 
-    ghost invariant = { λ a. IsTree a.taken.items a.nodes.items a.width };
+    ghost invariant = { λ a. IsTree a.taken.items a.nodes.items };
 }
 
 impl RunTree {
@@ -54,19 +98,14 @@ impl RunTree {
         let len = n as usize;
         let width = len.next_power_of_two();
         let taken = vec![in alloc; false; len]?;
-        let none = Segment {
-            len: 0,
+        let none = Summary {
             front: 0,
             back: 0,
             best: 0,
         };
-        let mut nodes = vec![in alloc; none; 2 * width]?;
-        start(&mut nodes, width, len);
-        Ok(RunTree {
-            taken,
-            nodes,
-            width,
-        })
+        let mut nodes = vec![in alloc; none; width]?;
+        refresh(&taken, &mut nodes, 0, width);
+        Ok(RunTree { taken, nodes })
     }
 
     /// How many positions there are.
@@ -92,14 +131,14 @@ impl RunTree {
         let first = from as usize;
         let len = count as usize;
         put_run(&mut self.taken, first, len, !free);
-        change(&mut self.nodes, self.width, first, first + len, !free);
+        refresh(&self.taken, &mut self.nodes, first, first + len);
     }
 
     /// The length of the longest run of free positions.
     pub fn longest(&self) -> u32
         ensures { IsLongest self.now result }
     {
-        self.nodes[1].best
+        summary_of(&self.taken, &self.nodes, 1).best
     }
 
     /// The summary of a node.
@@ -108,12 +147,7 @@ impl RunTree {
         requires inside { (width : ℕ) → IsNextPowerOfTwo (length self.now) width → node < 2 * width }
         ensures { (p n : ℕ) → Covers self.now node p n → IsSummary self.now p n result.front result.back result.best }
     {
-        let segment = self.nodes[node as usize];
-        Summary {
-            front: segment.front,
-            back: segment.back,
-            best: segment.best,
-        }
+        summary_of(&self.taken, &self.nodes, node as usize)
     }
 
     /// The least position that is at least `from` and from which `k` positions are free.
@@ -121,174 +155,128 @@ impl RunTree {
         requires { 1 ≤ k }
         ensures { result ≡ first_run (λ i. nat_le from i) k 0 self.now }
     {
-        match find(&self.taken, &self.nodes, self.width, from as usize, k) {
+        match find(&self.taken, &self.nodes, from as usize, k) {
             Some(at) => Some(at as u32),
             None => None,
         }
     }
 }
 
-/// How many positions a node has, and its summary.
+/// The summary of a node: that which is kept, or at a leaf that of its position, which is taken where it is past the
+/// last.
+fn summary_of(taken: &[bool], nodes: &[Summary], node: usize) -> Summary
+    ensures { result ≡ node_at taken.now nodes.now node }
+{
+    if node < nodes.len() {
+        return nodes[node];
+    }
+    let at = node - nodes.len();
+    Summary::leaf(at >= taken.len() || taken[at])
+}
+
+/// Makes a node sum up its positions, where those of `len` positions do, of which its children are two.
+fn refresh_node(taken: &[bool], nodes: &mut [Summary], len: u32, i: usize)
+    requires most { length nodes.old < 524288 }
+    requires power { IsPowerOfTwo len }
+    requires node { (p : ℕ) × IsNode (length nodes.old) i p (2 * len) }
+    requires children { (j p : ℕ) → Tells taken.now nodes.old j p len }
+    ensures size { length nodes.new ≡ length nodes.old }
+    ensures tells { (j p n : ℕ) → (j ≢ i → Tells taken.now nodes.old j p n) → Tells taken.now nodes.new j p n }
+{
+    let left = summary_of(taken, nodes, 2 * i);
+    let right = summary_of(taken, nodes, 2 * i + 1);
+    nodes[i] = Summary::join(len, left, right);
+}
+
+/// Makes some nodes in a row sum up their positions, where those of `len` positions do, of which their children are.
+fn refresh_level(taken: &[bool], nodes: &mut [Summary], len: u32, low: usize, high: usize)
+    requires most { length nodes.old < 524288 }
+    requires power { IsPowerOfTwo len }
+    requires low { length nodes.old ≤ low * (2 * len) }
+    requires high { (high + 1) * (2 * len) ≤ 2 * length nodes.old }
+    requires children { (i p : ℕ) → Tells taken.now nodes.old i p len }
+    ensures size { length nodes.new ≡ length nodes.old }
+    ensures tells { (i p n : ℕ) → ((low ≤ i → high < i) → Tells taken.now nodes.old i p n) → Tells taken.now nodes.new i p n }
+{
+    for i in low..high + 1 {
+        refresh_node(taken, nodes, len, i);
+    }
+}
+
+/// Makes all nodes sum up their positions, where those do already that have no position from `from` up to `to`.
+///
+/// It goes up from the leaves, level by level, and writes the nodes that have one.
+fn refresh(taken: &[bool], nodes: &mut [Summary], from: usize, to: usize)
+    requires width { IsPowerOfTwo (length nodes.old) }
+    requires most { length nodes.old < 524288 }
+    requires from { from ≤ to }
+    requires to { to ≤ length nodes.old }
+    requires beside { (i p n : ℕ) → (from < to → p < to → p + n ≤ from) → Tells taken.now nodes.old i p n }
+    ensures size { length nodes.new ≡ length nodes.old }
+    ensures tells { (i p n : ℕ) → Tells taken.now nodes.new i p n }
+{
+    if from == to {
+        return;
+    }
+    let width = nodes.len();
+    let mut low = width + from;
+    let mut high = width + to - 1;
+    let mut len = 1;
+    while (len as usize) < width {
+        low /= 2;
+        high /= 2;
+        refresh_level(taken, nodes, len, low, high);
+        len *= 2;
+    }
+}
+
+/// A node that a walk stands at, and how many positions it has.
 #[derive(Clone, Copy)]
-struct Segment {
+struct Place {
+    node: usize,
     len: u32,
-    front: u32,
-    back: u32,
-    best: u32,
 }
 
-impl Segment {
-    fn leaf(taken: bool) -> Segment
-        ensures { result ≡ leaf_of taken }
+impl Place {
+    /// Its first child.
+    fn below(self) -> Place
+        requires { self.node < 2 ^ 63 }
+        ensures node { result.node ≡ 2 * self.node }
+        ensures len { result.len ≡ self.len / 2 }
     {
-        let run = if taken { 0 } else { 1 };
-        Segment {
-            len: 1,
-            front: run,
-            back: run,
-            best: run,
+        Place {
+            node: 2 * self.node,
+            len: self.len / 2,
         }
     }
 
-    fn join(a: Segment, b: Segment) -> Segment
-        requires fits { a.len + b.len < 2 ^ 32 }
-        requires front { b.front ≤ b.len }
-        requires back { a.back ≤ a.len }
-        ensures { result ≡ join_of a b }
+    /// The node behind it, or its parent where that begins at the same position.
+    fn behind(self) -> Place
+        requires node { self.node < 2 ^ 63 }
+        requires len { self.len < 2 ^ 31 }
+        ensures { ((result.node ≡ self.node + 1) × (result.len ≡ self.len)) ⊎ ((2 * result.node ≡ self.node + 1) × (result.len ≡ 2 * self.len)) }
     {
-        Segment {
-            len: a.len + b.len,
-            front: if a.front == a.len {
-                a.len + b.front
-            } else {
-                a.front
-            },
-            back: if b.back == b.len {
-                b.len + a.back
-            } else {
-                b.back
-            },
-            best: a.best.max(b.best).max(a.back + b.front),
-        }
-    }
-
-    /// How many free positions stand just before its end, where so many stand just before it.
-    fn run_behind(self, run: u32) -> u32
-        requires { run + self.len < 2 ^ 32 }
-        ensures { result ≡ cond (nat_eq self.front self.len) (run + self.len) self.back }
-    {
-        if self.front == self.len {
-            run + self.len
+        let next = self.node + 1;
+        if next % 2 == 0 {
+            Place {
+                node: next / 2,
+                len: 2 * self.len,
+            }
         } else {
-            self.back
+            Place {
+                node: next,
+                len: self.len,
+            }
         }
     }
-}
-
-/// The node behind one, or its parent where that begins at the same position.
-fn node_behind(node: usize) -> usize
-    requires { node < 2 ^ 63 }
-    ensures { (result ≡ node + 1) ⊎ (2 * result ≡ node + 1) }
-{
-    let next = node + 1;
-    if next % 2 == 0 { next / 2 } else { next }
-}
-
-/// Makes the leaves of some positions those of free or of taken ones.
-fn put_leaves(nodes: &mut [Segment], width: usize, from: usize, to: usize, taken: bool)
-    requires nodes { IsNodes nodes.old width }
-    requires from { from ≤ to }
-    requires to { to ≤ width }
-    ensures nodes { IsNodes nodes.new width }
-    ensures leaves { (p : ℕ) → from ≤ p → p < to → node_at nodes.new (width + p) ≡ leaf_of taken }
-    ensures same { (i : ℕ) → (width + from ≤ i → width + to ≤ i) → node_at nodes.new i ≡ node_at nodes.old i }
-{
-    for p in from..to {
-        nodes[width + p] = Segment::leaf(taken);
-    }
-}
-
-/// Makes a node agree with its children.
-fn refresh_node(nodes: &mut [Segment], width: usize, i: usize)
-    requires nodes { IsNodes nodes.old width }
-    requires some { 1 ≤ i }
-    requires inner { i < width }
-    ensures nodes { IsNodes nodes.new width }
-    ensures agrees { Agrees nodes.new i }
-    ensures same { (j : ℕ) → j ≢ i → node_at nodes.new j ≡ node_at nodes.old j }
-{
-    nodes[i] = Segment::join(nodes[2 * i], nodes[2 * i + 1]);
-}
-
-/// Makes the nodes of a level agree, where only those above them may disagree then.
-fn refresh_level(nodes: &mut [Segment], width: usize, low: usize, high: usize)
-    requires nodes { IsNodes nodes.old width }
-    requires inner { high < width }
-    requires agrees { (i : ℕ) → 1 ≤ i → i < width → (low ≤ i → high < i) → Agrees nodes.old i }
-    ensures nodes { IsNodes nodes.new width }
-    ensures agrees { (i : ℕ) → 1 ≤ i → i < width → (low / 2 ≤ i → high / 2 < i) → Agrees nodes.new i }
-    ensures leaves { (i : ℕ) → width ≤ i → node_at nodes.new i ≡ node_at nodes.old i }
-{
-    for i in low.max(1)..high + 1 {
-        refresh_node(nodes, width, i);
-    }
-}
-
-/// Makes each node agree, where only those above two nodes and those between them may disagree.
-fn refresh(nodes: &mut [Segment], width: usize, low: usize, high: usize)
-    requires nodes { IsNodes nodes.old width }
-    requires inside { high < 2 * width }
-    requires agrees { (i : ℕ) → 1 ≤ i → i < width → (low / 2 ≤ i → high / 2 < i) → Agrees nodes.old i }
-    ensures nodes { IsNodes nodes.new width }
-    ensures agrees { (i : ℕ) → 1 ≤ i → i < width → Agrees nodes.new i }
-    ensures leaves { (i : ℕ) → width ≤ i → node_at nodes.new i ≡ node_at nodes.old i }
-{
-    let mut first = low / 2;
-    let mut last = high / 2;
-    while last > 0 {
-        refresh_level(nodes, width, first, last);
-        first /= 2;
-        last /= 2;
-    }
-}
-
-/// Makes some positions free or taken, and the nodes above them agree.
-fn change(nodes: &mut [Segment], width: usize, from: usize, to: usize, taken: bool)
-    requires nodes { IsNodes nodes.old width }
-    requires from { from ≤ to }
-    requires to { to ≤ width }
-    requires agrees { (i : ℕ) → 1 ≤ i → i < width → Agrees nodes.old i }
-    ensures nodes { IsNodes nodes.new width }
-    ensures agrees { (i : ℕ) → 1 ≤ i → i < width → Agrees nodes.new i }
-    ensures leaves { (p : ℕ) → from ≤ p → p < to → node_at nodes.new (width + p) ≡ leaf_of taken }
-    ensures same { (p : ℕ) → (from ≤ p → to ≤ p) → node_at nodes.new (width + p) ≡ node_at nodes.old (width + p) }
-{
-    if from < to {
-        put_leaves(nodes, width, from, to, taken);
-        refresh(nodes, width, width + from, width + to - 1);
-    }
-}
-
-/// Makes the tree of so many free positions of nodes that have none.
-fn start(nodes: &mut [Segment], width: usize, len: usize)
-    requires nodes { IsNodes nodes.old width }
-    requires len { len ≤ width }
-    requires agrees { (i : ℕ) → 1 ≤ i → i < width → Agrees nodes.old i }
-    ensures nodes { IsNodes nodes.new width }
-    ensures agrees { (i : ℕ) → 1 ≤ i → i < width → Agrees nodes.new i }
-    ensures free { (p : ℕ) → p < len → node_at nodes.new (width + p) ≡ leaf_of false }
-    ensures past { (p : ℕ) → len ≤ p → p < width → node_at nodes.new (width + p) ≡ leaf_of true }
-{
-    change(nodes, width, 0, len, false);
-    change(nodes, width, len, width, true);
 }
 
 /// The least position that is at least `from` and from which `k` positions are free, in a tree of nodes.
 ///
 /// It walks from the leaf of `from` to the right, node by node: over a node where no run can end or stand, and down
 /// into one where a run stands. A node behind a right child is looked at through its parent.
-fn find(taken: &[bool], nodes: &[Segment], width: usize, from: usize, k: u32) -> Option<usize>
-    requires tree { IsTree taken.now nodes.now width }
+fn find(taken: &[bool], nodes: &[Summary], from: usize, k: u32) -> Option<usize>
+    requires tree { IsTree taken.now nodes.now }
     requires some { 1 ≤ k }
     ensures first { result ≡ first_run (λ i. nat_le from i) k 0 taken.now }
     ensures within { IfSome result (λ at. at < length taken.now) }
@@ -296,20 +284,24 @@ fn find(taken: &[bool], nodes: &[Segment], width: usize, from: usize, k: u32) ->
     if from >= taken.len() {
         return None;
     }
-    let mut node = width + from;
+    let width = nodes.len();
+    let mut place = Place {
+        node: width + from,
+        len: 1,
+    };
     let mut at = from;
     let mut run = 0;
     while at < width {
-        let segment = nodes[node];
-        if run + segment.front >= k {
+        let summary = summary_of(taken, nodes, place.node);
+        if run + summary.front >= k {
             return Some(at - run as usize);
         }
-        if segment.best >= k {
-            node *= 2;
+        if summary.best >= k {
+            place = place.below();
         } else {
-            run = segment.run_behind(run);
-            at += segment.len as usize;
-            node = node_behind(node);
+            run = summary.run_behind(place.len, run);
+            at += place.len as usize;
+            place = place.behind();
         }
     }
     None
@@ -361,6 +353,24 @@ mod tests {
                 best: 2,
             },
         );
+        Ok(())
+    }
+
+    #[test]
+    fn has_one_position(rt: HostRuntime) -> Result<(), NoMemory> {
+        let mut tree = RunTree::new(rt.alloc(), 1)?;
+        finds(&rt, &tree, &[(0, 1, Some(0)), (0, 2, None), (1, 1, None)]);
+        sums_up(
+            &rt,
+            &tree,
+            Summary {
+                front: 1,
+                back: 1,
+                best: 1,
+            },
+        );
+        tree.set(0, 1, false);
+        finds(&rt, &tree, &[(0, 1, None)]);
         Ok(())
     }
 

@@ -1,14 +1,14 @@
-use Rattle.std.proofs.Common.{◌≡◌, ℕ, ◌≤◌, ◌<◌}
-use Rattle.space_core.specs.Trees.{IsNodes, Agrees, node_at}
+use Rattle.std.proofs.Common.{ℕ, ◌≡◌, ◌-◌, length}
+use Rattle.space_core.specs.Trees.{Tells}
+use Rattle.space_core.proofs.Nodes.{IsLevel, IsBeside}
 use Rattle.space_core.proofs.tree.refresh.Given as goal
 
-abbrev pub invariant-loop-last : goal.invariant-loop-last
-invariant-loop-last l = record {
-  nodes : IsNodes l.nodes l.width;
-  inside : l.last < l.width;
-  agrees : (i : ℕ) → 1 ≤ i → i < l.width → (l.first ≤ i → l.last < i) → Agrees l.nodes i;
-  leaves : (i : ℕ) → l.width ≤ i → node_at l.nodes i ≡ node_at l.initial.nodes i;
+abbrev pub invariant-loop-len : goal.invariant-loop-len
+invariant-loop-len l = record {
+  size : length l.nodes ≡ l.width;
+  level : IsLevel l.width l.len l.low l.high;
+  tells : (i p n : ℕ) → IsBeside l.width l.len l.low l.high p n → Tells l.taken l.nodes i p n;
 }
 
-abbrev pub decreases-loop-last : goal.decreases-loop-last
-decreases-loop-last l = l.last
+abbrev pub decreases-loop-len : goal.decreases-loop-len
+decreases-loop-len l = l.width - l.len

@@ -1,7 +1,7 @@
 use Rattle.std.proofs.Common.{◌≡◌, ◌++◌, length, take, drop, ap, arith}
 use Rattle.space_core.specs.CellRuns.{length-put_run}
 use Rattle.space_core.specs.Runs.{put_run}
-use Rattle.space_core.proofs.Reading.{whole}
+use Rattle.space_core.proofs.Rows.{whole}
 use Rattle.space_core.proofs.TableRuns.{table-put}
 use Rattle.space_core.proofs.table.CellTable.put_run.Goals as goal
 
