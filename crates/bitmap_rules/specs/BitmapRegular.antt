@@ -32,7 +32,7 @@ use Rattle.layer_laws.specs.Tests.{set-up-opens, takes-none}
 use Rattle.layer_laws.specs.Uncounting.{same-base, same-child, same-chunk, same-units}
 use Rattle.layer_laws.specs.Unranged.{regular-unranged, refused-refusing, unranged-regular}
 use Rattle.layer_laws.specs.Unreading.{unread-base, unread-chunk, unread-may_hold, unread-over_parent}
-use Rattle.layer_laws.specs.Paths.{along-at_chunk}
+use Rattle.layer_laws.specs.Paths.{along-at_chunk, by_path-at_chunk}
 use Rattle.bitmap_rules.specs.BitmapRules.{bitmap_aligned_allocate, bitmap_allocate, bitmap_chunk, bitmap_count, bitmap_deallocate, bitmap_expand, bitmap_opened, bitmap_place_at, bitmap_rules, bitmap_take, bitmap_with, free_place, further_units_free, read_bitmap, units_block}
 use Rattle.bitmap_rules.specs.BitmapMeanings.{BitmapIsRegular, IsBitmapSize}
 use Rattle.bitmap_rules.specs.BitmapParts.{bitmap-open_parts}
@@ -242,6 +242,7 @@ bitmap-owning unit count e = record {
       held-same b s t (lies_in b (units_block unit s)) (lies_in b (units_block unit t)) q
       (ap₂ (λ (p : ℕ) (c : Block). lies_in b (block p (unit * ((end_of c - p) / unit)))) (same-base s t q) (same-chunk s t q));
   along = λ path possible b s. along-at_chunk path (may_hold b s && lies_in b (units_block unit s)) possible;
+  by_path = λ path b c s. by_path-at_chunk path (may_hold b s && lies_in b (units_block unit s)) (may_hold c s && lies_in c (units_block unit s));
 }
 
 -- ---- taking

@@ -30,7 +30,7 @@ use Rattle.layer_laws.specs.Tests.{set-up-opens}
 use Rattle.layer_laws.specs.Uncounting.{same-child, same-may_hold}
 use Rattle.layer_laws.specs.Unranged.{regular-unranged, refused-refusing, unranged-regular}
 use Rattle.layer_laws.specs.Unreading.{told-child, unread-may_hold, unread-if_set_up}
-use Rattle.layer_laws.specs.Paths.{along-at_end, along-below, along-no_layer}
+use Rattle.layer_laws.specs.Paths.{along-at_end, along-below, along-no_layer, by_path-at_end}
 use Rattle.fallback_rules.specs.FallbackRules.{fallback_allocate, fallback_set_up, either_change, fallback_deallocate, or_other, reallocate_or_other, fallback_reallocate, reply_or, or_owns, fallback_owns, fallback_holds, fallback_owns_at, fallback_rules}
 use Rattle.fallback_rules.specs.EachChild.{OfChildren, of_children-member, after-asked_for}
 use Rattle.fallback_rules.specs.OrElse.{after-or_else, keeps-or_else, none-or_else, least-alignment, in-first, in-rest}
@@ -372,6 +372,12 @@ fallback-along p f h k (zero ∷ path) possible b s = along-below (is_served_siz
 fallback-along p f h k (suc zero ∷ path) possible b s = along-below (is_served_size b.len) (λ x. f.owns_at path x b (child s 1)) (λ x. k.along path x b (child s 1)) possible
 fallback-along p f h k (suc (suc i) ∷ path) possible b s = along-no_layer possible
 
+fallback-by_path : (p f : Rules) → OwningLaws p → OwningLaws f → (path : List ℕ) (b c : Block) (s : State) → fallback_owns_at p f path false b s ≡ fallback_owns_at p f path false c s
+fallback-by_path p f h k [] b c s = by_path-at_end (both_offer p.offers f.offers).owns (fallback_holds p f b s) (fallback_holds p f c s)
+fallback-by_path p f h k (zero ∷ path) b c s = h.by_path path b c (child s 0)
+fallback-by_path p f h k (suc zero ∷ path) b c s = k.by_path path b c (child s 1)
+fallback-by_path p f h k (suc (suc i) ∷ path) b c s = refl
+
 fallback-owning : (p f : Rules) → OwningLaws p → OwningLaws f → OwningLaws (fallback_rules p f)
 unfolding fallback_rules
 fallback-owning p f h k = record {
@@ -390,6 +396,7 @@ fallback-owning p f h k = record {
       ap₂ (λ x y. x && y) (same-may_hold b s t q)
       (ap₂ (λ x y. x || y) (h.holds_uncounted b (child s 0) (child t 0) (same-child s t 0 q)) (k.holds_uncounted b (child s 1) (child t 1) (same-child s t 1 q)));
   along = fallback-along p f h k;
+  by_path = fallback-by_path p f h k;
 }
 
 -- ---- taking

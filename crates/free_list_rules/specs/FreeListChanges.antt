@@ -89,10 +89,10 @@ apart-still : (e : Rules) (s : State) (cells : Cells) (b : Block) (d m : ℕ) (r
 apart-still e s cells b d m r [] g a f = tt
 apart-still e s cells b d m r (p ∷ ps) g a f = (g.fresh (block p m) a.0 f.0, apart-still e s cells b d m r ps g a.1 f.1)
 
-cache-size-rises : (least greatest m n : ℕ) → m ≤ n → cache_size least greatest m ≤ cache_size least greatest n
+pub cache-size-rises : (least greatest m n : ℕ) → m ≤ n → cache_size least greatest m ≤ cache_size least greatest n
 cache-size-rises least greatest m n h = grind (arith, nat_tests)
 
-cache-lacks : (least greatest : ℕ) (q : Bool) (delta : ℕ) (b : Block) → cache_size least greatest b.len ≤ cache_size least greatest (b.len + delta)
+pub cache-lacks : (least greatest : ℕ) (q : Bool) (delta : ℕ) (b : Block) → cache_size least greatest b.len ≤ cache_size least greatest (b.len + delta)
     → cache_down least greatest (longer_if q delta b) ≡ longer_if q (cache_size least greatest (b.len + delta) - cache_size least greatest b.len) (cache_down least greatest b)
 cache-lacks least greatest true delta b l =
     ap (block b.place) (let k : cache_size least greatest (b.len + delta) ≡ cache_size least greatest b.len + (cache_size least greatest (b.len + delta) - cache_size least greatest b.len) = omega arith in k)

@@ -27,7 +27,7 @@ use Rattle.layer_laws.specs.Takings.{TakesOwn, takes-refuse, takes-asked_for, ta
 use Rattle.layer_laws.specs.Owners.{held-same, AsksUnread, owned-child, open-may_hold, not_owned-child_if, steady-child_if, asks-below, asks-child_if}
 use Rattle.layer_laws.specs.Unranged.{regular-unranged, refused-refusing, unranged-regular}
 use Rattle.layer_laws.specs.Unreading.{told-child, unread-may_hold, unread-over_parent}
-use Rattle.layer_laws.specs.Paths.{along-at_end, along-below, along-into_parent}
+use Rattle.layer_laws.specs.Paths.{along-at_end, along-below, along-into_parent, by_path-at_end}
 use Rattle.free_list_rules.specs.FreeListRules.{cache_size, cache_down, cache_need, cache_allocate, cache_deallocate, cache_expand, cache_is_empty, is_empty, cache_holds, cache_owns_at, free_list_allocate, free_list_offers, free_list_rules}
 use Rattle.free_list_rules.specs.CacheParts.{cache-opened}
 
@@ -245,6 +245,10 @@ free_list-along least greatest e p (i ∷ path) possible b s =
     let fine = is_served_size b.len in
     along-into_parent i (λ x. below (x && fine)) (along-below fine below (λ x. p.along path x c (child s 0))) possible
 
+free_list-by_path : (least greatest : ℕ) (e : Rules) → OwningLaws e → (path : List ℕ) (b c : Block) (s : State) → cache_owns_at least greatest e path false b s ≡ cache_owns_at least greatest e path false c s
+free_list-by_path least greatest e p [] b c s = by_path-at_end e.offers.owns (cache_holds least greatest e b s) (cache_holds least greatest e c s)
+free_list-by_path least greatest e p (i ∷ path) b c s = ap (into_parent i) (p.by_path path (cache_down least greatest b) (cache_down least greatest c) (child s 0))
+
 pub free_list-owning : (least greatest : ℕ) (e : Rules) → OwningLaws e → OwningLaws (free_list_rules least greatest e)
 unfolding free_list_rules
 free_list-owning least greatest e p =
@@ -255,6 +259,7 @@ free_list-owning least greatest e p =
       open_holds = λ b s h. open-may_hold b s (e.holds (cache_down least greatest b) (child s 0)) h;
       holds_uncounted = λ b s t q. let c = cache_down least greatest b in held-same b s t (e.holds c (child s 0)) (e.holds c (child t 0)) q (p.holds_uncounted c (child s 0) (child t 0) (same-child s t 0 q));
       along = free_list-along least greatest e p;
+      by_path = free_list-by_path least greatest e p;
     }
 
 -- ---- taking

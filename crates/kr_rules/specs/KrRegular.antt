@@ -33,7 +33,7 @@ use Rattle.layer_laws.specs.Tests.{set-up-opens, takes-none}
 use Rattle.layer_laws.specs.Uncounting.{same-child, same-chunk, same-mode, same-open, same-position, same-units}
 use Rattle.layer_laws.specs.Unranged.{regular-unranged, refused-refusing, unranged-regular}
 use Rattle.layer_laws.specs.Unreading.{unread-chunk, unread-may_hold, unread-over_parent}
-use Rattle.layer_laws.specs.Paths.{along-at_chunk}
+use Rattle.layer_laws.specs.Paths.{along-at_chunk, by_path-at_chunk}
 use Rattle.kr_rules.specs.KrMeanings.{KrIsRegular}
 use Rattle.kr_rules.specs.KrParts.{kr-open_parts, tail_if-parts, tail_if-whole}
 use Rattle.kr_rules.specs.KrRules.{has_free_tail_if, kr_allocate, kr_chunk, kr_deallocate, kr_offers, kr_opened, kr_put, kr_rules, kr_tail_fits, read_kr, tail_is_free}
@@ -234,6 +234,7 @@ kr-owning size e = record {
   open_holds = λ b s h. open-may_hold b s (lies_in b (chunk_of s)) h;
   holds_uncounted = λ b s t q. held-same b s t (lies_in b (chunk_of s)) (lies_in b (chunk_of t)) q (ap (lies_in b) (same-chunk s t q));
   along = λ path possible b s. along-at_chunk path (may_hold b s && lies_in b (chunk_of s)) possible;
+  by_path = λ path b c s. by_path-at_chunk path (may_hold b s && lies_in b (chunk_of s)) (may_hold c s && lies_in c (chunk_of s));
 }
 
 -- ---- taking

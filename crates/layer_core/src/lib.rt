@@ -13,7 +13,7 @@ ghost use Rattle.size_round.specs.Sizes.{limit, is_power_of_two};
 ghost use Rattle.layer_rules.specs.Fields.{are_open};
 ghost use Rattle.layer_rules.specs.Rules.{owns_along};
 ghost use Rattle.layer_rules.specs.Layering.{LayerModel, kept_state, Stands, IsSetUp, IsShut, IsOutOf, IsMarkedOf, IsRoutedIn, SetsUp, TearsDown, Allocates, AlignedAllocates, Expands, Reallocates, ReallocatesGenerally, MovesBlock, Deallocates, DeallocatesAll, Owns, IsFactOf, numbers_at, IsNumberOf};
-ghost use Rattle.layer_laws.specs.Lawful.{IsMade};
+ghost use Rattle.layer_laws.specs.Lawful.{IsMade, yes_if};
 
 pub use calls::space_and_leaf;
 pub use layer_rules::{Asked, Block, Fact, Offers, Refused};
@@ -22,6 +22,16 @@ pub use short::{Octets, Path, Short};
 use size_round::LIMIT;
 pub use space_core::Mem;
 use space_core::Space;
+
+/// An answer at a path's end, where it goes by `possible` whether a layer can have the block: else a yes is a no.
+pub fn yes_if(possible: bool, answer: Asked) -> Asked
+    ensures { result ≡ yes_if possible answer }
+{
+    match answer {
+        Asked::Yes if !possible => Asked::No,
+        other => other,
+    }
+}
 
 /// A layer of an allocator: it hands out blocks of the Space, by the rule of its form.
 ///

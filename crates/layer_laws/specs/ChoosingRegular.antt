@@ -28,7 +28,7 @@ use Rattle.layer_laws.specs.Tests.{set-up-opens}
 use Rattle.layer_laws.specs.Uncounting.{same-child, same-may_hold}
 use Rattle.layer_laws.specs.Unranged.{regular-unranged, refused-refusing, unranged-regular}
 use Rattle.layer_laws.specs.Unreading.{told-child, unread-may_hold, unread-if_set_up}
-use Rattle.layer_laws.specs.Paths.{along-at_end, along-below, along-into_member}
+use Rattle.layer_laws.specs.Paths.{along-at_end, along-below, along-into_member, by_path-at_end}
 
 -- ---- telling
 
@@ -280,6 +280,10 @@ choosing-along h es w (i ∷ path) possible b s =
     let fine = is_served_size b.len && h.fits b.len in
     along-into_member es i (λ x. below (x && fine)) (along-below fine below (λ x. (w i).owning.along path x (chosen_down h b) (child s i))) possible
 
+choosing-by_path : (h : Choosing) (es : List Rules) → EachNumber UnrangedLaws es → (path : List ℕ) (b c : Block) (s : State) → choose_owns_at h es path false b s ≡ choose_owns_at h es path false c s
+choosing-by_path h es w [] b c s = by_path-at_end (offers_of_all es).owns (choose_holds h es b s) (choose_holds h es c s)
+choosing-by_path h es w (i ∷ path) b c s = ap (into_member es i) ((w i).owning.by_path path (chosen_down h b) (chosen_down h c) (child s i))
+
 choosing-owning : (h : Choosing) (es : List Rules) → EachNumber UnrangedLaws es → OwningLaws (choosing_rules h es)
 unfolding choosing_rules
 choosing-owning h es w = record {
@@ -298,6 +302,7 @@ choosing-owning h es w = record {
       ap₂ (λ x y. x && (h.fits b.len && y)) (same-may_hold b s t q) ((w i).owning.holds_uncounted (chosen_down h b) (child s i) (child t i) (same-child s t i q));
   open_holds = λ b s o. open-may_hold b s (h.fits b.len && (nth es (h.chosen b.len)).holds (chosen_down h b) (child s (h.chosen b.len))) o;
   along = choosing-along h es w;
+  by_path = choosing-by_path h es w;
 }
 
 -- ---- taking

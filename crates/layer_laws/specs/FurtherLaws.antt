@@ -59,7 +59,7 @@ owned-keeps t t' m b r l h a =
     let new = (t.rules.owns b s).state in
     let q = a.state m.bytes in
     let k = (keeping t m l h).owned b s m.cells h.sound.settled in
-    let frame : Frames t t' m m = record { rules = a.rules; image = a.image m.bytes h.image; memory = h.memory; size = refl; leaves = refl; foreign = record { at = λ i x y. refl } } in
+    let frame : Frames t t' m m = record { rules = a.rules; image = a.image m h; memory = h.memory; size = refl; leaves = refl; foreign = record { at = λ i x y. refl } } in
     record {
       stands = sound-again t t' m m h frame new m.cells q refl k.settled;
       steady = ap steady q ∙ l.regular.owning.rest b s;

@@ -8,7 +8,7 @@ use Rattle.space_core.specs.Cells.{Cells}
 use Rattle.space_core.specs.Memory.{Memory}
 use Rattle.layer_rules.specs.declared.Block.{Block}
 use Rattle.layer_rules.specs.Blocks.{end_of, with_len}
-use Rattle.layer_rules.specs.Fields.{Kept}
+use Rattle.layer_rules.specs.Fields.{Kept, are_open}
 use Rattle.layer_rules.specs.State.{State, Own, open_with, one_child, own_of, with_own}
 use Rattle.layer_rules.specs.After.{After, after, answering, Change, change_child, Reallocated, Reallocate, Reply, reply}
 use Rattle.layer_rules.specs.Expanding.{change_if}
@@ -23,6 +23,8 @@ use Rattle.layer_laws.specs.HandsDown.{RoundKept, HandsDown}
 use Rattle.layer_laws.specs.HandingModel.{hand_model}
 use Rattle.layer_laws.specs.HandingCalls.{RulesOf, frame-open, narrower, hand-stays}
 use Rattle.layer_laws.specs.HandingParts.{out-hand, apart-hand}
+use Rattle.layer_laws.specs.HandingStands.{parent-stands}
+use Rattle.layer_laws.specs.Lawful.{IsMade}
 use Rattle.layer_laws.specs.Uncounting.{with_own-own}
 
 -- ---- a block grows
@@ -123,10 +125,10 @@ hand-expanded form kept x x' t t' m m' b c delta d r w o k q round a =
 
 -- ---- a block is asked for
 
-pub hand-owned : {A : Type 0} → (form : Rules → Handing) (kept : A → Kept) (x x' : A) (t t' : LayerModel) (b : Block) (r : Bool) → is_served_size b.len ≡ true → (form t.rules).fits b ≡ true → (form t'.rules).kept (kept x') ≡ (form t.rules).owned ((form t.rules).kept (kept x))
+pub hand-owned : {A : Type 0} → (form : Rules → Handing) (kept : A → Kept) (x x' : A) (t t' : LayerModel) (b : Block) (r : Bool) → IsMade t.rules → are_open t.fields ≡ true → is_served_size b.len ≡ true → (form t.rules).fits b ≡ true → (form t'.rules).kept (kept x') ≡ (form t.rules).owned ((form t.rules).kept (kept x))
     → Owns t t' ((form t.rules).down b) r → Owns (hand_model form kept (Some x) t) (hand_model form kept (Some x') t') b r
 unfolding handing_rules
-hand-owned form kept x x' t t' b r p f q a =
+hand-owned form kept x x' t t' b r l u p f q a =
     let h = form t.rules in
     let T = hand_model form kept (Some x) t in
     let own = h.kept (kept x) in
@@ -138,7 +140,7 @@ hand-owned form kept x x' t t' b r p f q a =
       opened = refl;
       answer = a.answer ∙ ap (λ (z : Reply). z.owned) (sym (same []));
       state = λ bytes. ap (λ own. open_with own (one_child (t'.rules.read t'.fields bytes))) q ∙ (ap (λ u. open_with (h.owned own) (one_child u)) (a.state bytes) ∙ ap (λ (z : Reply). z.state) (sym (same bytes)));
-      image = λ bytes z. a.image bytes z;
+      image = λ m z. a.image m (parent-stands form kept (Some x) t m l u z);
     }
 
 -- ---- a block gets another length: by the general form, in place never, and with nothing counted for it

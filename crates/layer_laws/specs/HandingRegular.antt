@@ -31,7 +31,7 @@ use Rattle.layer_laws.specs.Owners.{held-same, AsksUnread, owned-child_both, ope
 use Rattle.layer_laws.specs.Unranged.{regular-unranged, refused-refusing, unranged-regular}
 use Rattle.layer_laws.specs.Unreading.{told-child, unread-may_hold, unread-over_parent}
 use Rattle.layer_laws.specs.HandingParts.{hand-opened, if-opens}
-use Rattle.layer_laws.specs.Paths.{along-at_end, along-below, along-into_parent}
+use Rattle.layer_laws.specs.Paths.{along-at_end, along-below, along-into_parent, by_path-at_end}
 
 -- ---- telling
 
@@ -311,6 +311,10 @@ hand-along h e p (i ∷ path) possible b s =
     let fine = is_served_size b.len && h.fits b in
     along-into_parent i (λ x. below (x && fine)) (along-below fine below (λ x. p.along path x (h.down b) (child s 0))) possible
 
+hand-by_path : (h : Handing) (e : Rules) → OwningLaws e → (path : List ℕ) (b c : Block) (s : State) → hand_owns_at h e path false b s ≡ hand_owns_at h e path false c s
+hand-by_path h e p [] b c s = by_path-at_end e.offers.owns (hand_holds h e b s) (hand_holds h e c s)
+hand-by_path h e p (i ∷ path) b c s = ap (into_parent i) (p.by_path path (h.down b) (h.down c) (child s 0))
+
 pub hand-owning : (h : Handing) (e : Rules) → KeepsWhereRefused h → OwningLaws e → OwningLaws (handing_rules h e)
 unfolding handing_rules
 hand-owning h e w p =
@@ -326,6 +330,7 @@ hand-owning h e w p =
           let c = h.down b in
           held-same b s t (h.fits b && e.holds c (child s 0)) (h.fits b && e.holds c (child t 0)) q (ap (λ x. h.fits b && x) (p.holds_uncounted c (child s 0) (child t 0) (same-child s t 0 q)));
       along = hand-along h e p;
+      by_path = hand-by_path h e p;
     }
 
 -- ---- taking

@@ -116,7 +116,8 @@ yes_if false Yes = No
 yes_if false answer = answer
 
 -- ---- owning: `owns` answers what `holds` says, which goes by no statistics; it changes orders of use and statistics alone, and on a no
--- statistics alone. Where a layer on the way of a path can't have the block, all that changes of the answer is that a yes is a no
+-- statistics alone. Where a layer on the way of a path can't have the block, all that changes of the answer is that a yes is a no,
+-- and it goes by the path alone
 pub record OwningLaws (e : Rules) : Type 0 where
   pub answer : (b : Block) (s : State) → (e.owns b s).owned ≡ e.holds b s
   pub rest : (b : Block) (s : State) → steady (e.owns b s).state ≡ steady s
@@ -124,6 +125,7 @@ pub record OwningLaws (e : Rules) : Type 0 where
   pub open_holds : (b : Block) (s : State) → e.holds b s ≡ true → is_open s ≡ true
   pub holds_uncounted : (b : Block) (s t : State) → uncounted s ≡ uncounted t → e.holds b s ≡ e.holds b t
   pub along : (path : List ℕ) (possible : Bool) (b : Block) (s : State) → e.owns_at path possible b s ≡ yes_if possible (owns_along e path b s)
+  pub by_path : (path : List ℕ) (b c : Block) (s : State) → e.owns_at path false b s ≡ e.owns_at path false c s
 
 -- ---- taking: a layer takes free cells for its own leaves, and changes no other, as it serves and as it is set up
 

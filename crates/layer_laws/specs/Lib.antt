@@ -23,6 +23,7 @@ pub mod HandingChanges
 pub mod HandingLawful
 pub mod HandingModel
 pub mod HandingParts
+pub mod HandingPaths
 pub mod HandingReallocated
 pub mod HandingRegular
 pub mod HandingStands
@@ -59,3 +60,4 @@ pub mod Uncounting
 pub mod UnitMeanings
 pub mod Unranged
 pub mod Unreading
+pub mod Writing

@@ -93,7 +93,7 @@ null-openness = record {
 
 null-owning : OwningLaws null_rules
 unfolding null_rules
-null-owning = record { answer = λ b s. refl; rest = λ b s. refl; not_owned = λ b s e. refl; open_holds = λ b s h. absurd (cc); holds_uncounted = λ b s t q. refl; along = λ path possible b s. along-at_no_child true path possible }
+null-owning = record { answer = λ b s. refl; rest = λ b s. refl; not_owned = λ b s e. refl; open_holds = λ b s h. absurd (cc); holds_uncounted = λ b s t q. refl; along = λ path possible b s. along-at_no_child true path possible; by_path = λ path b c s. refl }
 
 null-taking : TakingLaws null_rules
 unfolding null_rules

@@ -1,4 +1,5 @@
--- Paths: where a layer on the way can't have the block a yes at the path's end is a no, by the pieces that rules are made of.
+-- Paths: where a layer on the way can't have the block a yes at the path's end is a no, and the block decides nothing, by the pieces
+-- that rules are made of.
 use Rattle.std.proofs.Common.{◌≡◌, refl, sym, ap, ◌∙◌, ℕ, zero, suc, Bool, true, false, ◌&&◌, List, [], ◌∷◌}
 use Rattle.layer_rules.specs.declared.Asked.{Asked}
 use Rattle.layer_rules.specs.declared.Asked.TheVariants.{Yes, No, NotServing, NotOffered, NoSuchLayer}
@@ -63,3 +64,13 @@ pub along-into_member : (es : List Rules) (i : ℕ) (answer : Bool → Asked) �
 along-into_member [] i answer k possible = along-no_layer possible
 along-into_member (e ∷ es) zero answer k possible = k possible
 along-into_member (e ∷ es) (suc i) answer k possible = along-into_member es i answer k possible
+
+-- ---- where a layer on the way can't have the block
+
+pub by_path-at_end : (offered held held' : Bool) → at_end offered false held ≡ at_end offered false held'
+by_path-at_end false held held' = refl
+by_path-at_end true held held' = refl
+
+pub by_path-at_chunk : (path : List ℕ) (held held' : Bool) → at_chunk path false held ≡ at_chunk path false held'
+by_path-at_chunk [] held held' = refl
+by_path-at_chunk (i ∷ path) held held' = refl

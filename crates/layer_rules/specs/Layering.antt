@@ -223,14 +223,13 @@ pub record DeallocatesAll (t t' : LayerModel) (m m' : Memory) : Type 0 where
   pub state : state_of t' m' ≡ (all_deallocated t m).state
   pub cells : m'.cells ≡ (all_deallocated t m).cells
 
--- `owns` of the block. It is given no Space, so this is said whatever the bytes are.
+-- `owns` of the block. It is given no Space, so this is said whatever the bytes are, and of the image wherever the layer stands.
 pub record Owns (t t' : LayerModel) (b : Block) (r : Bool) : Type 0 where
   pub rules : t'.rules ≡ t.rules
   pub opened : are_open t'.fields ≡ are_open t.fields
   pub answer : r ≡ (t.rules.owns b (kept_state t)).owned
   pub state : (bytes : List ℕ) → t'.rules.read t'.fields bytes ≡ (t.rules.owns b (t.rules.read t.fields bytes)).state
-  pub image : (bytes : List ℕ) → t.rules.is_image t.fields (t.rules.read t.fields bytes) bytes ≡ true
-      → t'.rules.is_image t'.fields (t'.rules.read t'.fields bytes) bytes ≡ true
+  pub image : (m : Memory) → Stands t m → t'.rules.is_image t'.fields (state_of t' m) m.bytes ≡ true
 
 -- the numbers that a node keeps, counted as in the report
 abbrev pub numbers_at : LayerModel → (node : ℕ) → List ℕ

@@ -134,7 +134,7 @@ mem-openness tag =
 
 mem-owning : (tag : ℕ) → OwningLaws (mem_rules tag)
 unfolding mem_rules
-mem-owning tag = record { answer = λ b s. refl; rest = λ b s. refl; not_owned = λ b s h. refl; open_holds = λ b s h. absurd (cc); holds_uncounted = λ b s t q. refl; along = λ path possible b s. along-at_no_child false path possible }
+mem-owning tag = record { answer = λ b s. refl; rest = λ b s. refl; not_owned = λ b s h. refl; open_holds = λ b s h. absurd (cc); holds_uncounted = λ b s t q. refl; along = λ path possible b s. along-at_no_child false path possible; by_path = λ path b c s. refl }
 
 mem-taking : (tag : ℕ) → TakingLaws (mem_rules tag)
 unfolding mem_rules

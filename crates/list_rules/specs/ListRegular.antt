@@ -31,7 +31,7 @@ use Rattle.layer_laws.specs.TornDown.{freed-length}
 use Rattle.layer_laws.specs.Uncounting.{same-child, same-order, same-may_hold, uncounted-child_kept, steady-own_kept}
 use Rattle.layer_laws.specs.Unranged.{regular-unranged, refused-refusing, unranged-regular}
 use Rattle.layer_laws.specs.Unreading.{told-child, unread-order, unread-may_hold, unread-with_own, unread-if_set_up}
-use Rattle.layer_laws.specs.Paths.{along-at_end, along-below, along-into_member}
+use Rattle.layer_laws.specs.Paths.{along-at_end, along-below, along-into_member, by_path-at_end}
 use Rattle.fallback_rules.specs.EachChild.{OfChildren, of_children-child, of_children-own, of_children-member, after-asked_for}
 use Rattle.fallback_rules.specs.OrElse.{least-alignment, full-alignment, in-first, in-rest}
 use Rattle.list_rules.specs.ListRules.{used_last, to_front, holder, list_allocate, members_allocate, change_holder, members_expand, list_deallocate, members_deallocate, list_offers, all_closed, without_open, front_or, owns_members, list_holds, list_owns_at, route_from, extent_from, is_ordered, each_settled, list_rules}
@@ -421,6 +421,10 @@ list-along es h (i ∷ path) possible b s =
     let fine = is_served_size b.len in
     along-into_member es i (λ x. below (x && fine)) (along-below fine below (λ x. (h i).along path x b (child s i))) possible
 
+list-by_path : (es : List Rules) → EachNumber OwningLaws es → (path : List ℕ) (b c : Block) (s : State) → list_owns_at es path false b s ≡ list_owns_at es path false c s
+list-by_path es h [] b c s = by_path-at_end (list_offers es).owns (list_holds es b s) (list_holds es c s)
+list-by_path es h (i ∷ path) b c s = ap (into_member es i) ((h i).by_path path b c (child s i))
+
 list-owning : (es : List Rules) → EachNumber OwningLaws es → OwningLaws (list_rules es)
 unfolding list_rules
 list-owning es h = record {
@@ -431,6 +435,7 @@ list-owning es h = record {
   holds_uncounted = λ b s t q.
       ap₂ (λ x y. x && y) (same-may_hold b s t q) (ap (list_any (λ i. (nth es i).holds b (child s i))) (same-order s t q) ∙ any-same es h (order_of t) b s t q);
   along = list-along es h;
+  by_path = list-by_path es h;
 }
 
 -- ---- taking

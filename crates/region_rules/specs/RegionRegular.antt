@@ -190,6 +190,10 @@ region-along : (path : List ℕ) (possible : Bool) (b : Block) (s : State) → r
 region-along [] possible b s = along-at_chunk [] (region_holds b s) possible
 region-along (i ∷ path) possible b s = along-at_chunk (i ∷ path) (region_holds b s) possible
 
+region-by_path : (path : List ℕ) (b c : Block) (s : State) → region_owns_at path false b s ≡ region_owns_at path false c s
+region-by_path [] b c s = refl
+region-by_path (i ∷ path) b c s = refl
+
 region-owning : (size align : ℕ) (e : Rules) → OwningLaws (region_rules size align e)
 unfolding region_rules
 region-owning size align e = record {
@@ -199,6 +203,7 @@ region-owning size align e = record {
   open_holds = λ b s h. open-may_hold b s _ h;
   holds_uncounted = λ b s t q. held-same b s t (lies_in b (chunk_of s)) (lies_in b (chunk_of t)) q (ap (lies_in b) (same-chunk s t q));
   along = region-along;
+  by_path = region-by_path;
 }
 
 region-taking : (size align : ℕ) (e : Rules) → TakingLaws e → TakingLaws (region_rules size align e)
