@@ -1,0 +1,4 @@
+pub mod FreeListMade
+pub mod FreeListModel
+pub mod FreeListOwns
+pub mod FreeListProper
