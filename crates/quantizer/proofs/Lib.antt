@@ -1,0 +1,5 @@
+pub mod Asking
+pub mod Growing
+pub mod Opened
+pub mod Resizing
+pub mod Serving

@@ -1,0 +1,4 @@
+pub mod QuantizerMade
+pub mod QuantizerModel
+pub mod QuantizerOwns
+pub mod QuantizerProper

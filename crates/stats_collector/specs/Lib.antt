@@ -1,0 +1,4 @@
+pub mod CollectorMade
+pub mod CollectorModel
+pub mod CollectorOwns
+pub mod CollectorProper
