@@ -1,4 +1,5 @@
 // One level of a composition.
+use free_list::FreeList;
 use layer_core::{Asked, Block, Fact, Layer, Offers, Path, Refused};
 use region_block::Region;
 use space_core::Space;
@@ -11,6 +12,8 @@ pub enum Over<P: Layer> {
     Pass(P),
     /// A region over the parent.
     Region(Box<Region<P>>),
+    /// A free list over the parent.
+    FreeList(Box<FreeList<P>>),
 }
 
 impl<P: Layer> Layer for Over<P> {
@@ -22,6 +25,7 @@ impl<P: Layer> Layer for Over<P> {
         match self {
             Over::Pass(parent) => parent.nodes(),
             Over::Region(layer) => layer.nodes(),
+            Over::FreeList(layer) => layer.nodes(),
         }
     }
 
@@ -29,6 +33,7 @@ impl<P: Layer> Layer for Over<P> {
         match self {
             Over::Pass(parent) => parent.offers(),
             Over::Region(layer) => layer.offers(),
+            Over::FreeList(layer) => layer.offers(),
         }
     }
 
@@ -36,6 +41,7 @@ impl<P: Layer> Layer for Over<P> {
         match self {
             Over::Pass(parent) => parent.alignment(),
             Over::Region(layer) => layer.alignment(),
+            Over::FreeList(layer) => layer.alignment(),
         }
     }
 
@@ -43,6 +49,7 @@ impl<P: Layer> Layer for Over<P> {
         match self {
             Over::Pass(parent) => parent.good_alloc_size(n),
             Over::Region(layer) => layer.good_alloc_size(n),
+            Over::FreeList(layer) => layer.good_alloc_size(n),
         }
     }
 
@@ -50,6 +57,7 @@ impl<P: Layer> Layer for Over<P> {
         match self {
             Over::Pass(parent) => parent.is_open(),
             Over::Region(layer) => layer.is_open(),
+            Over::FreeList(layer) => layer.is_open(),
         }
     }
 
@@ -57,6 +65,7 @@ impl<P: Layer> Layer for Over<P> {
         match self {
             Over::Pass(parent) => parent.set_up(space, need),
             Over::Region(layer) => layer.set_up(space, need),
+            Over::FreeList(layer) => layer.set_up(space, need),
         }
     }
 
@@ -64,6 +73,7 @@ impl<P: Layer> Layer for Over<P> {
         match self {
             Over::Pass(parent) => parent.tear_down(space),
             Over::Region(layer) => layer.tear_down(space),
+            Over::FreeList(layer) => layer.tear_down(space),
         }
     }
 
@@ -71,6 +81,7 @@ impl<P: Layer> Layer for Over<P> {
         match self {
             Over::Pass(parent) => parent.allocate(space, n),
             Over::Region(layer) => layer.allocate(space, n),
+            Over::FreeList(layer) => layer.allocate(space, n),
         }
     }
 
@@ -78,6 +89,7 @@ impl<P: Layer> Layer for Over<P> {
         match self {
             Over::Pass(parent) => parent.aligned_allocate(space, n, a),
             Over::Region(layer) => layer.aligned_allocate(space, n, a),
+            Over::FreeList(layer) => layer.aligned_allocate(space, n, a),
         }
     }
 
@@ -85,6 +97,7 @@ impl<P: Layer> Layer for Over<P> {
         match self {
             Over::Pass(parent) => parent.expand(space, b, delta),
             Over::Region(layer) => layer.expand(space, b, delta),
+            Over::FreeList(layer) => layer.expand(space, b, delta),
         }
     }
 
@@ -92,6 +105,7 @@ impl<P: Layer> Layer for Over<P> {
         match self {
             Over::Pass(parent) => parent.reallocate(space, b, n),
             Over::Region(layer) => layer.reallocate(space, b, n),
+            Over::FreeList(layer) => layer.reallocate(space, b, n),
         }
     }
 
@@ -99,6 +113,7 @@ impl<P: Layer> Layer for Over<P> {
         match self {
             Over::Pass(parent) => parent.deallocate(space, b),
             Over::Region(layer) => layer.deallocate(space, b),
+            Over::FreeList(layer) => layer.deallocate(space, b),
         }
     }
 
@@ -106,6 +121,7 @@ impl<P: Layer> Layer for Over<P> {
         match self {
             Over::Pass(parent) => parent.deallocate_all(space),
             Over::Region(layer) => layer.deallocate_all(space),
+            Over::FreeList(layer) => layer.deallocate_all(space),
         }
     }
 
@@ -113,6 +129,7 @@ impl<P: Layer> Layer for Over<P> {
         match self {
             Over::Pass(parent) => parent.holds(b),
             Over::Region(layer) => layer.holds(b),
+            Over::FreeList(layer) => layer.holds(b),
         }
     }
 
@@ -120,6 +137,7 @@ impl<P: Layer> Layer for Over<P> {
         match self {
             Over::Pass(parent) => parent.owns(b),
             Over::Region(layer) => layer.owns(b),
+            Over::FreeList(layer) => layer.owns(b),
         }
     }
 
@@ -127,6 +145,7 @@ impl<P: Layer> Layer for Over<P> {
         match self {
             Over::Pass(parent) => parent.owns_at(path, from, b),
             Over::Region(layer) => layer.owns_at(path, from, b),
+            Over::FreeList(layer) => layer.owns_at(path, from, b),
         }
     }
 
@@ -134,6 +153,7 @@ impl<P: Layer> Layer for Over<P> {
         match self {
             Over::Pass(parent) => parent.extent(b),
             Over::Region(layer) => layer.extent(b),
+            Over::FreeList(layer) => layer.extent(b),
         }
     }
 
@@ -141,6 +161,7 @@ impl<P: Layer> Layer for Over<P> {
         match self {
             Over::Pass(parent) => parent.fact(space, node),
             Over::Region(layer) => layer.fact(space, node),
+            Over::FreeList(layer) => layer.fact(space, node),
         }
     }
 
@@ -148,6 +169,7 @@ impl<P: Layer> Layer for Over<P> {
         match self {
             Over::Pass(parent) => parent.state_len(node),
             Over::Region(layer) => layer.state_len(node),
+            Over::FreeList(layer) => layer.state_len(node),
         }
     }
 
@@ -155,6 +177,7 @@ impl<P: Layer> Layer for Over<P> {
         match self {
             Over::Pass(parent) => parent.state_number(node, k),
             Over::Region(layer) => layer.state_number(node, k),
+            Over::FreeList(layer) => layer.state_number(node, k),
         }
     }
 

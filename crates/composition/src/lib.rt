@@ -14,8 +14,6 @@
 mod halves;
 mod leaves;
 mod levels;
-#[cfg(test)]
-mod tests;
 
 pub use halves::LowerHalf;
 pub use leaves::Leaf;

@@ -7,12 +7,14 @@ use Rattle.layer_rules.specs.NullRules.{null_rules}
 use Rattle.layer_rules.specs.Rules.{Rules, IsLeaf, HasDistinctTags}
 use Rattle.leaf_rules.specs.MemRules.{mem_rules}
 use Rattle.region_rules.specs.RegionRules.{region_rules}
+use Rattle.free_list_rules.specs.FreeListRules.{free_list_rules}
 use Rattle.shapes.specs.Shape.{Shape}
 use Rattle.shapes.specs.RulesOf.{rules_of}
 use Rattle.shapes.specs.Proper.{is_proper}
 use Rattle.shapes.specs.ShapeMeanings.{HasLawfulForms}
 use Rattle.layer_laws.specs.Basics.{and-fst, and-snd}
-use Rattle.region_block.specs.RegionProper.{IsProper}
+use Rattle.region_block.specs.RegionProper as region
+use Rattle.free_list.specs.FreeListProper as free_list
 use Rattle.expr_reader.specs.declared.token.Name.{Name}
 use Rattle.expr_reader.specs.declared.token.Name.TheVariants as name
 use Rattle.expr_reader.specs.declared.node.Head.{Head}
@@ -80,6 +82,24 @@ region-means size align s below deep count made kept enough m =
       single = m.single;
     }
 
+proper-freelist : (a b c c' : Bool) → a ≡ true → b ≡ true → c' ≡ c → c ≡ true → (a && (b && c')) ≡ true
+proper-freelist a b c c' h i e k = grind (arith, h, i, e, k)
+
+freelist-means : (least greatest : ℕ) → KeepsMeaning name.FreeList (Number least ∷ Number greatest ∷ [])
+unfolding rules_of is_proper free_list_rules
+freelist-means least greatest s below deep count made kept enough m =
+    let nodes = m.nodes in
+    record {
+      aligned = m.aligned;
+      layers = ap (λ n. suc n) m.layers;
+      nodes = omega (arith, nodes);
+      proper = proper-freelist (is_between 8 size_bound greatest) (nat_le least greatest) _ _ kept.1.0 kept.0 refl m.proper;
+      lawful = m.lawful;
+      distinct = m.distinct;
+      next = m.next;
+      single = m.single;
+    }
+
 -- ---- from what fits to one of the words
 
 -- each layer of some arguments has a meaning
@@ -121,6 +141,7 @@ over-means k args made r kept =
 
 pub layer-means : (k : Name) (args : Args) (made : ℕ) → FitsIn args (inner (takes k)) → AllMean args made → KeepsRules None k args → LayerMeans k args made
 layer-means name.Region args made f m = over-means name.Region args made (one-below args 2 made (KeepsMeaning name.Region) region-means f m)
+layer-means name.FreeList args made f m = over-means name.FreeList args made (one-below args 2 made (KeepsMeaning name.FreeList) freelist-means f m)
 layer-means k args made f m = absurd (nothing_fits args f)
 
 -- ---- what the layers of the program ask
@@ -134,12 +155,12 @@ pub record MayStand (k : Name) (args : Args) (made : ℕ) : Type 0 where
 sized : (n low high : ℕ) → is_between low high n ≡ true → (low ≤ n) × (n ≤ high)
 sized n low high h = (grind (arith, nat_tests), grind (arith, nat_tests))
 
-pub region-proper : (size align : ℕ) (e : Tree) (made : ℕ) (r : Rules) → r ≡ rules_of (shape_of e made) → MayStand name.Region (number size (number align (last e))) made → IsProper size align r
+pub region-proper : (size align : ℕ) (e : Tree) (made : ℕ) (r : Rules) → r ≡ rules_of (shape_of e made) → MayStand name.Region (number size (number align (last e))) made → region.IsProper size align r
 region-proper size align e made r is m =
     let ranges = m.kept.in_range in
     let size_in = sized size 1 size_bound ranges.0 in
     let align_in = sized align 1 4096 (and-fst (is_between 1 4096 align) (is_power_of_two align) ranges.1.0) in
-    subst (IsProper size align) (sym is)
+    subst (region.IsProper size align) (sym is)
     (record {
       size_some = size_in.0;
       size_most = size_in.1;
@@ -147,6 +168,18 @@ region-proper size align e made r is m =
       align_most = align_in.1;
       power = and-snd (is_between 1 4096 align) (is_power_of_two align) ranges.1.0;
       aligned = omega (arith, m.kept.aligned, m.below.aligned);
+      depth = omega (arith, m.below.layers, m.shallow);
+      few = omega (arith, m.below.nodes, m.shallow);
+    })
+
+pub freelist-proper : (least greatest : ℕ) (e : Tree) (made : ℕ) (r : Rules) → r ≡ rules_of (shape_of e made) → MayStand name.FreeList (number least (number greatest (last e))) made → free_list.IsProper least greatest r
+freelist-proper least greatest e made r is m =
+    let ranges = m.kept.in_range in
+    let ordered : least ≤ greatest = grind (arith, nat_tests, ranges.0) in
+    let greatest_in = sized greatest 8 size_bound ranges.1.0 in
+    subst (free_list.IsProper least greatest) (sym is)
+    (record {
+      size = record { word = greatest_in.0; most = greatest_in.1; ordered = ordered };
       depth = omega (arith, m.below.layers, m.shallow);
       few = omega (arith, m.below.nodes, m.shallow);
     })

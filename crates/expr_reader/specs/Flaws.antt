@@ -8,7 +8,7 @@ use Rattle.expr_reader.specs.declared.token.Name.{Name}
 use Rattle.expr_reader.specs.declared.node.Head.{Head}
 use Rattle.expr_reader.specs.declared.node.Head.TheVariants.{Number, Chosen}
 use Rattle.expr_reader.specs.declared.table.Allowed.{Allowed}
-use Rattle.expr_reader.specs.declared.table.Allowed.TheVariants.{Between, PowerOfTwo}
+use Rattle.expr_reader.specs.declared.table.Allowed.TheVariants.{Between, PowerOfTwo, AtMostNumber}
 use Rattle.expr_reader.specs.declared.table.Alignment.{Alignment}
 use Rattle.expr_reader.specs.declared.table.Alignment.TheVariants.{AsBelow, Fixed, OfNumber}
 use Rattle.expr_reader.specs.Table.{profile_of}
@@ -43,19 +43,20 @@ word_alignment k hs below = own_alignment (profile_of k).alignment hs below
 abbrev pub needs : Name → List Head → ℕ
 needs k hs = word_alignment k hs 0
 
--- whether the number is allowed
-abbrev pub is_allowed : Allowed → ℕ → Bool
-is_allowed (Between least most) n = is_between least most n
-is_allowed (PowerOfTwo most) n = is_between 1 most n && is_power_of_two n
+-- whether the number is allowed, among all that its word has
+abbrev pub is_allowed : (all : List Head) → Allowed → ℕ → Bool
+is_allowed all (Between least most) n = is_between least most n
+is_allowed all (PowerOfTwo most) n = is_between 1 most n && is_power_of_two n
+is_allowed all (AtMostNumber i) n = nat_le n (number_or n (slice_get all i))
 
 -- The same of each number, in order. What the layer above gives to a word in place of numbers is the first argument.
-abbrev pub are_allowed : (given : Option ℕ) → List Allowed → List Head → List Bool
-are_allowed given (a ∷ more) (Number n ∷ hs) = is_allowed a n ∷ are_allowed given more hs
-are_allowed given allowed hs = []
+abbrev pub are_allowed : (given : Option ℕ) → (all : List Head) → List Allowed → List Head → List Bool
+are_allowed given all (a ∷ more) (Number n ∷ hs) = is_allowed all a n ∷ are_allowed given all more hs
+are_allowed given all allowed hs = []
 
 -- whether each number of a word keeps its range
 abbrev pub keeps_ranges : Name → (given : Option ℕ) → List Head → List Bool
-keeps_ranges k given hs = are_allowed given (profile_of k).allowed hs
+keeps_ranges k given hs = are_allowed given hs (profile_of k).allowed hs
 
 -- what a layer gives to a word in place of numbers directly below it: no layer gives anything yet
 abbrev pub gives : Name → List Head → Option ℕ

@@ -35,6 +35,7 @@ abbrev mutual
 -- The shape of a layer, from its numbers and the shapes below it. A word that isn't in the grammar yet stands for no memory at all.
 abbrev pub layer_shape : Name → List Head → List Shape → Shape
 layer_shape name.Region (Number size ∷ Number align ∷ []) (s ∷ []) = shape.region size align s
+layer_shape name.FreeList (Number least ∷ Number greatest ∷ []) (s ∷ []) = shape.freelist least greatest s
 layer_shape k hs ss = shape.null
 
 -- the shape of a tree

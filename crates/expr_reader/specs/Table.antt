@@ -8,7 +8,7 @@ use Rattle.expr_reader.specs.declared.token.Name.TheVariants as name
 use Rattle.expr_reader.specs.declared.signature.Entry.{Entry}
 use Rattle.expr_reader.specs.declared.signature.Entry.TheVariants.{Missing, Alone, Takes}
 use Rattle.expr_reader.specs.declared.table.Allowed.{Allowed}
-use Rattle.expr_reader.specs.declared.table.Allowed.TheVariants.{Between, PowerOfTwo}
+use Rattle.expr_reader.specs.declared.table.Allowed.TheVariants.{Between, PowerOfTwo, AtMostNumber}
 use Rattle.expr_reader.specs.declared.table.Alignment.{Alignment}
 use Rattle.expr_reader.specs.declared.table.Alignment.TheVariants.{AsBelow, Fixed, OfNumber}
 use Rattle.expr_reader.specs.declared.table.Profile as declared
@@ -44,4 +44,5 @@ abbrev pub profile_of : Name → Profile
 profile_of name.Null = alone full_alignment
 profile_of name.Mem = alone cell_size
 profile_of name.Region = over_one (Between 1 size_bound ∷ PowerOfTwo 4096 ∷ []) (OfNumber 1)
+profile_of name.FreeList = over_one (AtMostNumber 1 ∷ Between 8 size_bound ∷ []) AsBelow
 profile_of k = missing

@@ -10,8 +10,9 @@ ghost use Rattle.expr_reader.specs.Buildable.{IsBuildable};
 ghost use Rattle.expr_reader.specs.ShapeOf.{shape_of};
 ghost use Rattle.expr_reader.specs.Sound.{leaf_count, with_leaves, AcceptedAreCompositions, BuildableAreCompositions};
 
-use crate::tree::{Expr, Form};
+use crate::tree::{Bounds, Expr, Form};
 use composition::{Composition, Leaf, LowerHalf, Over, Over4};
+use free_list::FreeList;
 use layer_core::{Layer, NullLayer};
 use region_block::Region;
 use space_core::{NoMemory, Space};
@@ -43,7 +44,7 @@ impl Level for Leaf {
                 Some(leaf) => Ok(Leaf::Mem(leaf)),
                 None => unreachable!(),
             },
-            // A region stands on a level above, and the grammar has no other form yet.
+            // Any other layer stands on a level above.
             _ => unreachable!(),
         }
     }
@@ -64,7 +65,16 @@ impl<P: Level> Level for Over<P> {
                 let layer = Region::new(*size, *align, below);
                 Ok(Over::Region(Box::new(alloc, layer).map_err(|_failed| NoMemory)?))
             }
-            // The levels that are left over stand below the last region.
+            Form::FreeList { bounds, parent } => match *bounds {
+                Bounds::Range { min, max } => {
+                    let below = P::build(alloc, parent, space)?;
+                    let layer = FreeList::new(min, max, below);
+                    Ok(Over::FreeList(Box::new(alloc, layer).map_err(|_failed| NoMemory)?))
+                }
+                // The word `any` is none of the grammar yet.
+                Bounds::Any => unreachable!(),
+            },
+            // The levels that are left over stand below the last layer.
             _ => Ok(Over::Pass(P::build(alloc, expr, space)?)),
         }
     }

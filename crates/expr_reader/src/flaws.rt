@@ -1,6 +1,6 @@
 //! The flaws of what was read, by the table of words.
 
-ghost use Rattle.std.specs.Prelude.{◌≡◌, ◌≤◌, ◌++◌, List, ℕ, map, min, length, None, IfOk, OnOk};
+ghost use Rattle.std.specs.Prelude.{◌≡◌, ◌≤◌, ◌++◌, List, ℕ, map, min, length, slice_get, None, IfOk, OnOk};
 ghost use Rattle.size_round.specs.Sizes.{is_power_of_two, limit};
 ghost use Rattle.expr_reader.specs.Nodes.{node_tree, args_tree};
 ghost use Rattle.expr_reader.specs.Trees.{place_of};
@@ -17,6 +17,16 @@ use std::alloc::{AllocError, Global};
 
 // ---- what the table says of a word
 
+/// The word's number with this index, and else another.
+fn number_or(other: u64, heads: &[Head], index: usize) -> u64
+    ensures { result ≡ spec.number_or other (slice_get heads.now index) }
+{
+    match heads.get(index) {
+        Some(Head::Number(n)) => *n,
+        _ => other,
+    }
+}
+
 /// An alignment, from the word's numbers and the alignment below it.
 fn own_alignment(alignment: Alignment, heads: &[Head], below: u64) -> u64
     ensures { result ≡ spec.own_alignment alignment heads.now below }
@@ -24,10 +34,7 @@ fn own_alignment(alignment: Alignment, heads: &[Head], below: u64) -> u64
     match alignment {
         Alignment::AsBelow => below,
         Alignment::Fixed { bytes } => bytes,
-        Alignment::OfNumber { index } => match heads.get(index) {
-            Some(Head::Number(n)) => *n,
-            _ => below,
-        },
+        Alignment::OfNumber { index } => number_or(below, heads, index),
     }
 }
 
@@ -46,12 +53,14 @@ fn is_power_of_two(n: u64) -> bool
     PowerOfTwo.round(n) == n
 }
 
-fn is_allowed(allowed: Allowed, n: u64) -> bool
-    ensures { result ≡ spec.is_allowed allowed n }
+/// Whether the number is allowed, among all that its word has.
+fn is_allowed(all: &[Head], allowed: Allowed, n: u64) -> bool
+    ensures { result ≡ spec.is_allowed all.now allowed n }
 {
     match allowed {
         Allowed::Between { least, most } => least <= n && n <= most,
         Allowed::PowerOfTwo { most } => n >= 1 && n <= u64::from(most) && is_power_of_two(n),
+        Allowed::AtMostNumber { index } => n <= number_or(n, all, index),
     }
 }
 
@@ -205,30 +214,34 @@ fn first_of_two(first: Option<ExprFault>, second: Option<ExprFault>) -> Option<E
     }
 }
 
-/// The fault that is told of the numbers that aren't allowed, where each has its place.
+/// The fault that is told of the numbers that aren't allowed, where each has its place. All that the word has are `all`.
 #[tactic(auto, using(crate::proofs::Told::told))]
 fn broken(
     given: Option<u64>,
+    all: &[Head],
     allowed: &[Allowed],
     heads: &[Head],
     places: &[u64],
 ) -> Option<ExprFault>
-    ensures { result ≡ first_told (spec.broken (spec.are_allowed given allowed.now heads.now) places.now) }
+    ensures { result ≡ first_told (spec.broken (spec.are_allowed given all.now allowed.now heads.now) places.now) }
 {
     match allowed {
         [] => None,
         [test, tests @ ..] => match heads {
             [Head::Number(n), more @ ..] => match places {
                 [] => first_of_two(
-                    unless(is_allowed(*test, *n), ExprFault::BadParameter { at: 0 }),
-                    broken(given, tests, more, places),
+                    unless(
+                        is_allowed(all, *test, *n),
+                        ExprFault::BadParameter { at: 0 },
+                    ),
+                    broken(given, all, tests, more, places),
                 ),
                 [place, others @ ..] => first_of_two(
                     unless(
-                        is_allowed(*test, *n),
+                        is_allowed(all, *test, *n),
                         ExprFault::BadParameter { at: *place },
                     ),
-                    broken(given, tests, more, others),
+                    broken(given, all, tests, more, others),
                 ),
             },
             _ => None,
@@ -274,7 +287,7 @@ fn layer_flaw(
             at: first_place(args),
         },
     );
-    let bad = broken(given, profile_of(name).allowed, heads, &head_places);
+    let bad = broken(given, heads, profile_of(name).allowed, heads, &head_places);
     Ok(first_of_two(low, bad))
 }
 

@@ -10,7 +10,7 @@ ghost use Rattle.expr_reader.specs.declared.signature.Entry.TheVariants.{Alone};
 
 use crate::node::{Args, Node};
 use crate::token::Name;
-use crate::tree::{Expr, Form};
+use crate::tree::{Bounds, Expr, Form};
 use std::alloc::{AllocError, Global};
 
 /// A number, behind which `more` numbers and the last layer come.
@@ -71,6 +71,13 @@ fn layer_form(alloc: Global, left: u32, name: Name, args: Args) -> Result<Form, 
                 align,
                 parent,
             })
+        }
+        Name::FreeList => {
+            let (min, args) = number(args, 1);
+            let (max, args) = number(args, 0);
+            let parent = parent(alloc, left, args)?;
+            let bounds = Bounds::Range { min, max };
+            Ok(Form::FreeList { bounds, parent })
         }
         _ => unreachable!(),
     }

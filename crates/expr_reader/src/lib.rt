@@ -21,6 +21,3 @@ pub use fault::ExprFault;
 pub use printing::{canonical_is_accepted, canonical_is_read, print};
 pub use reading::{each_text_is_read_once, read};
 pub use tree::{Bounds, Expr, Form, Part, Parts, RoundKind};
-
-#[cfg(test)]
-mod tests;

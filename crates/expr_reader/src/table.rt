@@ -17,6 +17,8 @@ pub enum Allowed {
     Between { least: u64, most: u64 },
     /// A power of two, from 1 to the greatest.
     PowerOfTwo { most: u32 },
+    /// At most the word's number with this index, from 0.
+    AtMostNumber { index: usize },
 }
 
 /// The alignment of a word's blocks, in bytes. Where it is the word's own, the word needs as much below it.
@@ -93,6 +95,16 @@ pub fn profile_of(name: Name) -> Profile
                 Allowed::PowerOfTwo { most: 4096 },
             ],
             Alignment::OfNumber { index: 1 },
+        ),
+        Name::FreeList => over_one(
+            &[
+                Allowed::AtMostNumber { index: 1 },
+                Allowed::Between {
+                    least: 8,
+                    most: 1 << 30,
+                },
+            ],
+            Alignment::AsBelow,
         ),
         _ => missing(),
     }

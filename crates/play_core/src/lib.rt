@@ -5,6 +5,8 @@ ghost use Rattle.std.specs.Prelude.{◌≡◌};
 ghost use Rattle.play_core.specs.Codes.{code_of};
 
 mod expression;
+#[cfg(test)]
+mod expression_tests;
 mod feeding;
 pub mod laws;
 mod playing;

@@ -2,7 +2,6 @@
 ghost use Rattle.std.specs.Prelude.{◌≡◌, ◌≤◌, [], length};
 ghost use Rattle.std.specs.Option.{option_map};
 ghost use Rattle.arrayvec.specs.ArrayString.{array_string_len};
-ghost use Rattle.layer_rules.specs.Fields.{stats_numbers};
 ghost use Rattle.layer_rules.specs.Layering.{Stands, state_of};
 ghost use Rattle.play_core.specs.Devices.{writing};
 ghost use Rattle.play_core.specs.Ends.{run_at, rules_at, HeldAt, LinesPut};
@@ -15,6 +14,7 @@ use layer_core::{Fact, Layer};
 use layer_rules::Stats;
 use source_sink::{Failed, Sink};
 use space_core::Space;
+use stats_collector::in_order;
 use trace_text::{Line, push_number};
 
 // A word and a number.
@@ -73,35 +73,12 @@ fn count_line(node: u32, words: &str, count: u64) -> Option<Line>
     Some(line)
 }
 
-// The counters of a statistics layer, in the order of their declaration.
-fn numbers_of(stats: Stats) -> [u64; 15]
-    ensures { result ≡ stats_numbers stats }
-{
-    [
-        stats.num_owns,
-        stats.num_allocate,
-        stats.num_allocate_ok,
-        stats.num_expand,
-        stats.num_expand_ok,
-        stats.num_reallocate,
-        stats.num_reallocate_ok,
-        stats.num_reallocate_in_place,
-        stats.num_deallocate,
-        stats.num_deallocate_all,
-        stats.bytes_used,
-        stats.bytes_allocated,
-        stats.bytes_moved,
-        stats.bytes_slack,
-        stats.bytes_high_tide,
-    ]
-}
-
 // A statistics layer.
 fn stats_line(node: u32, stats: Stats) -> Line
     ensures { result.bytes ≡ stats_line node stats }
 {
     let mut line = node_words(node, "stats");
-    for number in numbers_of(stats) {
+    for number in in_order(stats) {
         line.push_str(" ");
         push_number(&mut line, number);
     }

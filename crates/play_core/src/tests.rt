@@ -21,7 +21,7 @@ struct Row {
     told: &'static str,
 }
 
-const TRACES: [Row; 32] = [
+const TRACES: [Row; 36] = [
     // the examples
     Row {
         words: &["replay", "region(1024,16,mem)", "64"],
@@ -76,6 +76,31 @@ const TRACES: [Row; 32] = [
         trace: "# a text that is written, grows where it stands, and moves when it can't\na 1 8\nw 1 0 68656c6c6f\ne 1 8\na 2 16\nr 1 32\nd 1 0 6\no 1\nl 3 16 128\ng 100\nz\n",
         status: Status::Good,
         told: "a 1 0\nw 1 ok\ne 1 true\na 2 16\nr 1 true 32\nd 1 68656c6c6f00\no 1 true\nl 3 128\ng 100 112\nz done\nlive 0\nasked 0\nextent 0\nslack 0\nnode 0 region room 1024 longest 1024\nnode 1 mem cells 16\n",
+    },
+    Row {
+        words: &["replay", "freelist(16,64,region(256,16,mem))", "64"],
+        trace: "a 1 20\na 2 60\nf 1\na 3 40\nf 2\nf 3\na 4 64\n",
+        status: Status::Good,
+        told: "a 1 0\na 2 64\nf 1 true\na 3 0\nf 2 true\nf 3 true\na 4 0\nlive 1\nasked 64\nextent 64\nslack 0\nnode 0 freelist cached 1\nnode 1 region room 128 longest 128\nnode 2 mem cells 4\n",
+    },
+    // a free list hands out again what was freed; a block that grows into its range has the greatest length, or isn't grown
+    Row {
+        words: &["replay", "freelist(16,64,region(256,16,mem))", "64"],
+        trace: "a 1 20\nf 1\na 2 60\nf 2\n",
+        status: Status::Good,
+        told: "a 1 0\nf 1 true\na 2 0\nf 2 true\nlive 0\nasked 0\nextent 0\nslack 0\nnode 0 freelist cached 1\nnode 1 region room 192 longest 192\nnode 2 mem cells 4\n",
+    },
+    Row {
+        words: &["replay", "freelist(16,64,region(256,16,mem))", "64"],
+        trace: "a 1 60\ne 1 10\nf 1\na 2 200\n",
+        status: Status::Good,
+        told: "a 1 0\ne 1 true\nf 1 true\na 2 0\nlive 1\nasked 200\nextent 208\nslack 8\nnode 1 region room 48 longest 48\nnode 2 mem cells 4\n",
+    },
+    Row {
+        words: &["replay", "freelist(16,64,region(256,16,mem))", "64"],
+        trace: "a 1 10\na 2 100\ne 1 10\nf 2\ne 1 10\nf 1\na 3 64\na 4 64\n",
+        status: Status::Good,
+        told: "a 1 0\na 2 16\ne 1 false\nf 2 true\ne 1 true\nf 1 true\na 3 0\na 4 64\nlive 2\nasked 128\nextent 128\nslack 0\nnode 1 region room 128 longest 128\nnode 2 mem cells 4\n",
     },
     // no line, and words with blanks and zeros
     Row {
@@ -311,7 +336,7 @@ const FAILINGS: [Failing; 7] = [
 ];
 
 // Expressions without a fault, and what stands in them.
-const EXPRESSIONS: [(&str, &str); 4] = [
+const EXPRESSIONS: [(&str, &str); 5] = [
     (
         "region(1024, 16, mem)",
         "region(1024,16,mem)\nnodes 2\nalign 16\noffers owns expand aligned all\n",
@@ -324,6 +349,10 @@ const EXPRESSIONS: [(&str, &str); 4] = [
     (
         "region(64,8,region(00064,32,null))",
         "region(64,8,region(64,32,null))\nnodes 3\nalign 8\noffers owns expand aligned all\n",
+    ),
+    (
+        "freelist(8, 64, mem)",
+        "freelist(8,64,mem)\nnodes 2\nalign 64\noffers expand all\n",
     ),
 ];
 

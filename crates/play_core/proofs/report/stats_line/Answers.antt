@@ -4,6 +4,6 @@ use Rattle.play_core.proofs.report.stats_line.Goals as goal
 
 pub returns : goal.returns
 returns c =
-    let numbers = c.numbers_of-number-items.ensures in
-    stats_told c.args.node c.loop-number.number-index c.args.stats c.numbers_of-number-items.result c.loop-number.line.bytes c.push_str-2.new.self.bytes numbers
+    let numbers = c.in_order-number-items.ensures in
+    stats_told c.args.node c.loop-number.number-index c.args.stats c.in_order-number-items.result c.loop-number.line.bytes c.push_str-2.new.self.bytes numbers
     (omega (arith, c.loop-number-test.false, ap length numbers)) c.loop-number.invariant.bytes c.push_str-2.ensures.bytes

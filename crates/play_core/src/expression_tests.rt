@@ -1,7 +1,10 @@
+// What no clause says of expressions: that each of these comes to its end with ample memory.
 ghost use Rattle.expr_reader.specs.Buildable.{IsBuildable};
 ghost use Rattle.expr_reader.specs.Trees.{tree_of};
 
-use super::*;
+use expr_reader::{
+    Bounds, Expr, Form, Part, Parts, RoundKind, build, buildable_are_compositions, print, read,
+};
 use layer_core::Layer;
 use space_core::Space;
 use std::alloc::Global;
@@ -54,6 +57,18 @@ fn texts(rt: HostRuntime) -> Result<(), Fail> {
         ("region(64,16,region(64,8,mem))", "needs alignment at 13"),
         ("region(64,8,region(64,3,mem))", "needs alignment at 12"),
         ("region(0,16,mem", "syntax at 15"),
+        ("freelist( 16, 064, mem)", "freelist(16,64,mem)"),
+        ("freelist(0,8,null)", "freelist(0,8,null)"),
+        ("freelist(0,7,mem)", "bad parameter at 11"),
+        ("freelist(8,7,mem)", "bad parameter at 9"),
+        ("freelist(65,64,mem)", "bad parameter at 9"),
+        ("freelist(16,1073741824,mem)", "freelist(16,1073741824,mem)"),
+        ("freelist(16,1073741825,mem)", "bad parameter at 12"),
+        ("freelist(any,mem)", "syntax at 9"),
+        (
+            "region(64,128,freelist(16,64,mem))",
+            "needs alignment at 14",
+        ),
     ];
     for (text, answer) in &table {
         let found = shown(&rt, text)?;
@@ -175,6 +190,7 @@ fn compositions(rt: HostRuntime) -> Result<(), Fail> {
         ("mem", [1, 64, 1]),
         ("region(1024,16,mem)", [2, 16, 1]),
         ("region(64,8,region(64,32,null))", [3, 8, 0]),
+        ("freelist(16,64,region(256,16,mem))", [3, 16, 1]),
         (
             "region(1,1,region(2,2,region(3,4,region(4,8,region(5,16,region(6,32,region(7,64,region(8,64,mem))))))))",
             [9, 1, 1],

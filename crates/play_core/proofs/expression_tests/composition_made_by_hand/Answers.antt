@@ -3,7 +3,7 @@ use Rattle.size_round.specs.Sizes.{rounded}
 use Rattle.expr_reader.specs.declared.tree.Expr.{Expr}
 use Rattle.expr_reader.specs.Buildable.{IsBuildable}
 use Rattle.expr_reader.specs.Trees.{tree_of, region, mem}
-use Rattle.expr_reader.proofs.tests.composition_made_by_hand.Goals as goal
+use Rattle.play_core.proofs.expression_tests.composition_made_by_hand.Goals as goal
 
 over_cells : IsBuildable (region 0 1024 16 (mem 0))
 unfolding rounded

@@ -2,7 +2,7 @@
 use Rattle.std.proofs.Common.{ap, arith}
 use Rattle.space_core.specs.Memory.{Memory}
 use Rattle.expr_reader.specs.Trees.{tree_of}
-use Rattle.expr_reader.proofs.tests.built.Goals as goal
+use Rattle.play_core.proofs.expression_tests.built.Goals as goal
 
 pub build-requires-clause-leaves : goal.build-requires-clause-leaves
 build-requires-clause-leaves g c =
