@@ -2,6 +2,7 @@
 //
 //     baseline region ALIGN BYTES     a pointer that goes up, and takes back the last block only
 //     baseline mem                    aligned_alloc(64, ..) of whole cells of 64 bytes, and free
+//     baseline freelist MIN MAX ALIGN BYTES     freed blocks of MIN to MAX bytes, linked by their first words, over a region
 //
 // The answers are the program's, without its report; a new block's bytes are 0, as the program's are. Over `mem` the
 // places differ: malloc's are told.
@@ -61,6 +62,8 @@ public:
         return true;
     }
 
+    unsigned char *at(uint64_t place) { return bytes + place; }
+
 private:
     uint64_t align;
     uint64_t size;
@@ -87,6 +90,43 @@ public:
 private:
     // Below malloc's first blocks, so that places have as many digits as the program's.
     uintptr_t begin = reinterpret_cast<uintptr_t>(std::make_unique<char>().get()) >> 24 << 24;
+};
+
+// A block of `least` to `greatest` bytes takes up `greatest`.
+class FreeList {
+public:
+    FreeList(uint64_t least, uint64_t greatest, Region parent) : least(least), greatest(greatest), parent(parent) {}
+
+    std::optional<uint64_t> allocate(uint64_t length) {
+        if (!caches(length)) {
+            return parent.allocate(length);
+        }
+        if (front == chain_end) {
+            return parent.allocate(greatest);
+        }
+        uint64_t place = front;
+        std::memcpy(&front, parent.at(place), sizeof front);
+        std::memset(parent.at(place), 0, length);
+        return place;
+    }
+
+    bool free(Block block) {
+        if (!caches(block.length)) {
+            return parent.free(block);
+        }
+        std::memcpy(parent.at(block.place), &front, sizeof front);
+        front = block.place;
+        return true;
+    }
+
+private:
+    bool caches(uint64_t length) const { return least <= length && length <= greatest; }
+
+    static constexpr uint64_t chain_end = UINT64_MAX;
+    uint64_t least;
+    uint64_t greatest;
+    uint64_t front = chain_end;
+    Region parent;
 };
 
 std::string whole_input() {
@@ -217,13 +257,15 @@ private:
 
 int main(int count, char **words) {
     std::string_view form = count > 1 ? words[1] : "";
+    auto number = [words](int index) { return std::strtoull(words[index], nullptr, 10); };
     std::string trace = whole_input();
     if (form == "region" && count == 4) {
-        uint64_t align = std::strtoull(words[2], nullptr, 10);
-        Replay(Region(align, std::strtoull(words[3], nullptr, 10))).run(Input(trace));
+        Replay(Region(number(2), number(3))).run(Input(trace));
     } else if (form == "mem" && count == 2) {
         Replay(Mem()).run(Input(trace));
+    } else if (form == "freelist" && count == 6) {
+        Replay(FreeList(number(2), number(3), Region(number(4), number(5)))).run(Input(trace));
     } else {
-        stop("usage: baseline region ALIGN BYTES | baseline mem");
+        stop("usage: baseline region ALIGN BYTES | baseline mem | baseline freelist MIN MAX ALIGN BYTES");
     }
 }
