@@ -1,14 +1,5 @@
 // What no clause says of expressions: that each of these comes to its end with ample memory.
-ghost use Rattle.expr_reader.specs.Buildable.{IsBuildable};
-ghost use Rattle.expr_reader.specs.Trees.{tree_of};
-
-use expr_reader::{
-    Bounds, Expr, Form, Part, Parts, RoundKind, build, buildable_are_compositions, print, read,
-};
-use layer_core::Layer;
-use space_core::Space;
-use std::alloc::Global;
-use std::process::Abort;
+use expr_reader::{Bounds, Expr, Form, Part, Parts, RoundKind, print, read};
 use std::test::*;
 
 /// What a text is read as: its canonical text, or its fault.
@@ -168,60 +159,5 @@ fn other_forms(rt: HostRuntime) -> Result<(), Fail> {
         },
     )?;
     assert_eq!(rt; text.as_str(), "buckets(1,128,16,mem)");
-    Ok(())
-}
-
-/// How many nodes the composition of an expression has, the alignment of its blocks in bytes, and how many leaves it takes.
-fn built(rt: &impl Abort, alloc: Global, expr: &Expr) -> Result<[u64; 3], Fail>
-    requires { IsBuildable (tree_of expr.now) }
-{
-    buildable_are_compositions();
-    let mut space = Space::closed();
-    let layers = build(alloc, expr, &mut space).map_err(|_| "out of memory")?;
-    assert!(rt; !layers.is_open());
-    let leaves = u64::from(space.leaves());
-    Ok([u64::from(layers.nodes()), layers.alignment(), leaves])
-}
-
-#[test]
-fn compositions(rt: HostRuntime) -> Result<(), Fail> {
-    let table = [
-        ("null", [1, 65536, 0]),
-        ("mem", [1, 64, 1]),
-        ("region(1024,16,mem)", [2, 16, 1]),
-        ("region(64,8,region(64,32,null))", [3, 8, 0]),
-        ("freelist(16,64,region(256,16,mem))", [3, 16, 1]),
-        (
-            "region(1,1,region(2,2,region(3,4,region(4,8,region(5,16,region(6,32,region(7,64,region(8,64,mem))))))))",
-            [9, 1, 1],
-        ),
-    ];
-    for (text, facts) in &table {
-        let Ok(expr) = read(rt.alloc(), text) else {
-            return Err("no expression".into());
-        };
-        assert_eq!(rt; built(&rt, rt.alloc(), &expr)?, *facts);
-    }
-    Ok(())
-}
-
-#[test]
-fn composition_made_by_hand(rt: HostRuntime) -> Result<(), Fail> {
-    let cells = Expr {
-        at: 0,
-        form: Form::Mem,
-    };
-    let Ok(parent) = Box::new(rt.alloc(), cells) else {
-        return Err("out of memory".into());
-    };
-    let expr = Expr {
-        at: 0,
-        form: Form::Region {
-            size: 1024,
-            align: 16,
-            parent,
-        },
-    };
-    assert_eq!(rt; built(&rt, rt.alloc(), &expr)?, [2, 16, 1]);
     Ok(())
 }

@@ -336,7 +336,7 @@ const FAILINGS: [Failing; 7] = [
 ];
 
 // Expressions without a fault, and what stands in them.
-const EXPRESSIONS: [(&str, &str); 5] = [
+const EXPRESSIONS: [(&str, &str); 7] = [
     (
         "region(1024, 16, mem)",
         "region(1024,16,mem)\nnodes 2\nalign 16\noffers owns expand aligned all\n",
@@ -349,6 +349,14 @@ const EXPRESSIONS: [(&str, &str); 5] = [
     (
         "region(64,8,region(00064,32,null))",
         "region(64,8,region(64,32,null))\nnodes 3\nalign 8\noffers owns expand aligned all\n",
+    ),
+    (
+        "freelist(16,64,region(256,16,mem))",
+        "freelist(16,64,region(256,16,mem))\nnodes 3\nalign 16\noffers owns expand all\n",
+    ),
+    (
+        "region(1,1,region(2,2,region(3,4,region(4,8,region(5,16,region(6,32,region(7,64,region(8,64,mem))))))))",
+        "region(1,1,region(2,2,region(3,4,region(4,8,region(5,16,region(6,32,region(7,64,region(8,64,mem))))))))\nnodes 9\nalign 1\noffers owns expand aligned all\n",
     ),
     (
         "freelist(8, 64, mem)",
