@@ -9,11 +9,12 @@ use Rattle.composition.specs.declared.leaves.Leaf.{Leaf}
 use Rattle.composition.specs.declared.leaves.Leaf.TheVariants.{Null, Mem}
 
 -- the model of the layer inside
-abbrev pub leaf_of : Leaf → LayerModel
+unfoldable pub leaf_of : Leaf → LayerModel
 leaf_of (Null l) = null_model l
 leaf_of (Mem l) = leaf_model l
 
 -- its rules are lawful, since each end's are
 pub leaf_made : (l : Leaf) → IsMade (leaf_of l).rules
+unfolding leaf_of
 leaf_made (Null l) = null_made l
 leaf_made (Mem l) = mem_made l

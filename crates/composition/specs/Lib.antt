@@ -1,3 +1,6 @@
 pub mod LeafModel
 pub mod LevelModel
+pub mod QuarterModel
 pub mod HalfModel
+pub mod ThreeQuartersModel
+pub mod CompositionModel

@@ -1,4 +1,6 @@
 // The ends of a composition.
+#![tactic(auto, unfolding(crate::specs::LeafModel::leaf_of))]
+
 use layer_core::{Asked, Block, Fact, Layer, Mem, NullLayer, Offers, Path, Refused};
 use space_core::Space;
 

@@ -1,8 +1,14 @@
 // One level of a composition.
+#![tactic(auto, unfolding(crate::specs::LevelModel::over_of))]
+
+use affix_layer::Affix;
 use free_list::FreeList;
 use layer_core::{Asked, Block, Fact, Layer, Offers, Path, Refused};
+use quantizer::Quantizer;
 use region_block::Region;
+use size_round::{Multiple, PowerOfTwo};
 use space_core::Space;
+use stats_collector::StatsCollector;
 
 /// One level of a composition: a layer of some form over a parent, or the parent alone. Each call does what
 /// the layer inside does.
@@ -14,6 +20,14 @@ pub enum Over<P: Layer> {
     Region(Box<Region<P>>),
     /// A free list over the parent.
     FreeList(Box<FreeList<P>>),
+    /// A quantizer over the parent, for multiples of a step.
+    QuantizeStep(Box<Quantizer<P, Multiple>>),
+    /// A quantizer over the parent, for powers of two.
+    QuantizePow2(Box<Quantizer<P, PowerOfTwo>>),
+    /// A statistics layer over the parent.
+    Stats(Box<StatsCollector<P>>),
+    /// An affix over the parent.
+    Affix(Box<Affix<P>>),
 }
 
 impl<P: Layer> Layer for Over<P> {
@@ -26,6 +40,10 @@ impl<P: Layer> Layer for Over<P> {
             Over::Pass(parent) => parent.nodes(),
             Over::Region(layer) => layer.nodes(),
             Over::FreeList(layer) => layer.nodes(),
+            Over::QuantizeStep(layer) => layer.nodes(),
+            Over::QuantizePow2(layer) => layer.nodes(),
+            Over::Stats(layer) => layer.nodes(),
+            Over::Affix(layer) => layer.nodes(),
         }
     }
 
@@ -34,6 +52,10 @@ impl<P: Layer> Layer for Over<P> {
             Over::Pass(parent) => parent.offers(),
             Over::Region(layer) => layer.offers(),
             Over::FreeList(layer) => layer.offers(),
+            Over::QuantizeStep(layer) => layer.offers(),
+            Over::QuantizePow2(layer) => layer.offers(),
+            Over::Stats(layer) => layer.offers(),
+            Over::Affix(layer) => layer.offers(),
         }
     }
 
@@ -42,6 +64,10 @@ impl<P: Layer> Layer for Over<P> {
             Over::Pass(parent) => parent.alignment(),
             Over::Region(layer) => layer.alignment(),
             Over::FreeList(layer) => layer.alignment(),
+            Over::QuantizeStep(layer) => layer.alignment(),
+            Over::QuantizePow2(layer) => layer.alignment(),
+            Over::Stats(layer) => layer.alignment(),
+            Over::Affix(layer) => layer.alignment(),
         }
     }
 
@@ -50,6 +76,10 @@ impl<P: Layer> Layer for Over<P> {
             Over::Pass(parent) => parent.good_alloc_size(n),
             Over::Region(layer) => layer.good_alloc_size(n),
             Over::FreeList(layer) => layer.good_alloc_size(n),
+            Over::QuantizeStep(layer) => layer.good_alloc_size(n),
+            Over::QuantizePow2(layer) => layer.good_alloc_size(n),
+            Over::Stats(layer) => layer.good_alloc_size(n),
+            Over::Affix(layer) => layer.good_alloc_size(n),
         }
     }
 
@@ -58,6 +88,10 @@ impl<P: Layer> Layer for Over<P> {
             Over::Pass(parent) => parent.is_open(),
             Over::Region(layer) => layer.is_open(),
             Over::FreeList(layer) => layer.is_open(),
+            Over::QuantizeStep(layer) => layer.is_open(),
+            Over::QuantizePow2(layer) => layer.is_open(),
+            Over::Stats(layer) => layer.is_open(),
+            Over::Affix(layer) => layer.is_open(),
         }
     }
 
@@ -66,6 +100,10 @@ impl<P: Layer> Layer for Over<P> {
             Over::Pass(parent) => parent.set_up(space, need),
             Over::Region(layer) => layer.set_up(space, need),
             Over::FreeList(layer) => layer.set_up(space, need),
+            Over::QuantizeStep(layer) => layer.set_up(space, need),
+            Over::QuantizePow2(layer) => layer.set_up(space, need),
+            Over::Stats(layer) => layer.set_up(space, need),
+            Over::Affix(layer) => layer.set_up(space, need),
         }
     }
 
@@ -74,6 +112,10 @@ impl<P: Layer> Layer for Over<P> {
             Over::Pass(parent) => parent.tear_down(space),
             Over::Region(layer) => layer.tear_down(space),
             Over::FreeList(layer) => layer.tear_down(space),
+            Over::QuantizeStep(layer) => layer.tear_down(space),
+            Over::QuantizePow2(layer) => layer.tear_down(space),
+            Over::Stats(layer) => layer.tear_down(space),
+            Over::Affix(layer) => layer.tear_down(space),
         }
     }
 
@@ -82,6 +124,10 @@ impl<P: Layer> Layer for Over<P> {
             Over::Pass(parent) => parent.allocate(space, n),
             Over::Region(layer) => layer.allocate(space, n),
             Over::FreeList(layer) => layer.allocate(space, n),
+            Over::QuantizeStep(layer) => layer.allocate(space, n),
+            Over::QuantizePow2(layer) => layer.allocate(space, n),
+            Over::Stats(layer) => layer.allocate(space, n),
+            Over::Affix(layer) => layer.allocate(space, n),
         }
     }
 
@@ -90,6 +136,10 @@ impl<P: Layer> Layer for Over<P> {
             Over::Pass(parent) => parent.aligned_allocate(space, n, a),
             Over::Region(layer) => layer.aligned_allocate(space, n, a),
             Over::FreeList(layer) => layer.aligned_allocate(space, n, a),
+            Over::QuantizeStep(layer) => layer.aligned_allocate(space, n, a),
+            Over::QuantizePow2(layer) => layer.aligned_allocate(space, n, a),
+            Over::Stats(layer) => layer.aligned_allocate(space, n, a),
+            Over::Affix(layer) => layer.aligned_allocate(space, n, a),
         }
     }
 
@@ -98,6 +148,10 @@ impl<P: Layer> Layer for Over<P> {
             Over::Pass(parent) => parent.expand(space, b, delta),
             Over::Region(layer) => layer.expand(space, b, delta),
             Over::FreeList(layer) => layer.expand(space, b, delta),
+            Over::QuantizeStep(layer) => layer.expand(space, b, delta),
+            Over::QuantizePow2(layer) => layer.expand(space, b, delta),
+            Over::Stats(layer) => layer.expand(space, b, delta),
+            Over::Affix(layer) => layer.expand(space, b, delta),
         }
     }
 
@@ -106,6 +160,10 @@ impl<P: Layer> Layer for Over<P> {
             Over::Pass(parent) => parent.reallocate(space, b, n),
             Over::Region(layer) => layer.reallocate(space, b, n),
             Over::FreeList(layer) => layer.reallocate(space, b, n),
+            Over::QuantizeStep(layer) => layer.reallocate(space, b, n),
+            Over::QuantizePow2(layer) => layer.reallocate(space, b, n),
+            Over::Stats(layer) => layer.reallocate(space, b, n),
+            Over::Affix(layer) => layer.reallocate(space, b, n),
         }
     }
 
@@ -114,6 +172,10 @@ impl<P: Layer> Layer for Over<P> {
             Over::Pass(parent) => parent.deallocate(space, b),
             Over::Region(layer) => layer.deallocate(space, b),
             Over::FreeList(layer) => layer.deallocate(space, b),
+            Over::QuantizeStep(layer) => layer.deallocate(space, b),
+            Over::QuantizePow2(layer) => layer.deallocate(space, b),
+            Over::Stats(layer) => layer.deallocate(space, b),
+            Over::Affix(layer) => layer.deallocate(space, b),
         }
     }
 
@@ -122,6 +184,10 @@ impl<P: Layer> Layer for Over<P> {
             Over::Pass(parent) => parent.deallocate_all(space),
             Over::Region(layer) => layer.deallocate_all(space),
             Over::FreeList(layer) => layer.deallocate_all(space),
+            Over::QuantizeStep(layer) => layer.deallocate_all(space),
+            Over::QuantizePow2(layer) => layer.deallocate_all(space),
+            Over::Stats(layer) => layer.deallocate_all(space),
+            Over::Affix(layer) => layer.deallocate_all(space),
         }
     }
 
@@ -130,6 +196,10 @@ impl<P: Layer> Layer for Over<P> {
             Over::Pass(parent) => parent.holds(b),
             Over::Region(layer) => layer.holds(b),
             Over::FreeList(layer) => layer.holds(b),
+            Over::QuantizeStep(layer) => layer.holds(b),
+            Over::QuantizePow2(layer) => layer.holds(b),
+            Over::Stats(layer) => layer.holds(b),
+            Over::Affix(layer) => layer.holds(b),
         }
     }
 
@@ -138,6 +208,10 @@ impl<P: Layer> Layer for Over<P> {
             Over::Pass(parent) => parent.owns(b),
             Over::Region(layer) => layer.owns(b),
             Over::FreeList(layer) => layer.owns(b),
+            Over::QuantizeStep(layer) => layer.owns(b),
+            Over::QuantizePow2(layer) => layer.owns(b),
+            Over::Stats(layer) => layer.owns(b),
+            Over::Affix(layer) => layer.owns(b),
         }
     }
 
@@ -146,6 +220,10 @@ impl<P: Layer> Layer for Over<P> {
             Over::Pass(parent) => parent.owns_at(path, from, b),
             Over::Region(layer) => layer.owns_at(path, from, b),
             Over::FreeList(layer) => layer.owns_at(path, from, b),
+            Over::QuantizeStep(layer) => layer.owns_at(path, from, b),
+            Over::QuantizePow2(layer) => layer.owns_at(path, from, b),
+            Over::Stats(layer) => layer.owns_at(path, from, b),
+            Over::Affix(layer) => layer.owns_at(path, from, b),
         }
     }
 
@@ -154,6 +232,10 @@ impl<P: Layer> Layer for Over<P> {
             Over::Pass(parent) => parent.extent(b),
             Over::Region(layer) => layer.extent(b),
             Over::FreeList(layer) => layer.extent(b),
+            Over::QuantizeStep(layer) => layer.extent(b),
+            Over::QuantizePow2(layer) => layer.extent(b),
+            Over::Stats(layer) => layer.extent(b),
+            Over::Affix(layer) => layer.extent(b),
         }
     }
 
@@ -162,6 +244,10 @@ impl<P: Layer> Layer for Over<P> {
             Over::Pass(parent) => parent.fact(space, node),
             Over::Region(layer) => layer.fact(space, node),
             Over::FreeList(layer) => layer.fact(space, node),
+            Over::QuantizeStep(layer) => layer.fact(space, node),
+            Over::QuantizePow2(layer) => layer.fact(space, node),
+            Over::Stats(layer) => layer.fact(space, node),
+            Over::Affix(layer) => layer.fact(space, node),
         }
     }
 
@@ -170,6 +256,10 @@ impl<P: Layer> Layer for Over<P> {
             Over::Pass(parent) => parent.state_len(node),
             Over::Region(layer) => layer.state_len(node),
             Over::FreeList(layer) => layer.state_len(node),
+            Over::QuantizeStep(layer) => layer.state_len(node),
+            Over::QuantizePow2(layer) => layer.state_len(node),
+            Over::Stats(layer) => layer.state_len(node),
+            Over::Affix(layer) => layer.state_len(node),
         }
     }
 
@@ -178,6 +268,10 @@ impl<P: Layer> Layer for Over<P> {
             Over::Pass(parent) => parent.state_number(node, k),
             Over::Region(layer) => layer.state_number(node, k),
             Over::FreeList(layer) => layer.state_number(node, k),
+            Over::QuantizeStep(layer) => layer.state_number(node, k),
+            Over::QuantizePow2(layer) => layer.state_number(node, k),
+            Over::Stats(layer) => layer.state_number(node, k),
+            Over::Affix(layer) => layer.state_number(node, k),
         }
     }
 

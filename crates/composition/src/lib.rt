@@ -5,25 +5,24 @@
 //! form, and a level that is not used is a `Pass`. It is a layer, proved level by level, by what each
 //! parent promises.
 //!
-//! The lower four levels are a type of their own, `LowerHalf`. The check goes through all the levels
-//! of a nested type at each function that names it, and each further level doubles that; it stops at
-//! a type with a proof of its own. So code above stays generic over `L: Layer`, and names `Composition` in
-//! as few functions as can be.
+//! Each two levels are a type of their own: `Quarter`, `Half`, `ThreeQuarters` and `Composition`. The check goes through
+//! all the levels of a nested type at each function that names it, and each further level doubles that; it stops at a
+//! type with a proof of its own.
 #![tactic(auto)]
 
-mod halves;
+mod half;
 mod leaves;
 mod levels;
+mod quarter;
+mod three_quarters;
+mod whole;
 
-pub use halves::LowerHalf;
+pub use half::Half;
 pub use leaves::Leaf;
 pub use levels::Over;
+pub use quarter::Quarter;
+pub use three_quarters::ThreeQuarters;
+pub use whole::Composition;
 
 /// Two levels over a layer.
 pub type Over2<P> = Over<Over<P>>;
-
-/// Four levels over a layer.
-pub type Over4<P> = Over2<Over2<P>>;
-
-/// Any composition of at most eight layers on each path above a leaf.
-pub type Composition = Over4<LowerHalf>;

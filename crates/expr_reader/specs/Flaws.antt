@@ -1,16 +1,17 @@
 -- Flaws of an expression that reads: numbers that break their rule, and parents with too little alignment.
 -- Alignment goes by the numbers as they are written.
-use Rattle.std.specs.Prelude.{ℕ, ◌+◌, Bool, ◌&&◌, ◌==◌, nat_le, nat_lt, if◌then◌else◌, min, List, [], ◌∷◌, ◌++◌, drop, map, slice_get, Option, Some, None}
-use Rattle.size_round.specs.Sizes.{is_between, is_power_of_two}
+use Rattle.std.specs.Prelude.{ℕ, ◌+◌, Bool, ◌&&◌, ◌==◌, nat_eq, nat_le, nat_lt, if◌then◌else◌, min, List, [], ◌∷◌, ◌++◌, drop, map, slice_get, Option, Some, None}
+use Rattle.size_round.specs.Sizes.{is_between, is_multiple, is_power_of_two}
 use Rattle.expr_reader.specs.declared.fault.ExprFault.{ExprFault}
 use Rattle.expr_reader.specs.declared.fault.ExprFault.TheVariants.{Syntax, NumberTooLarge, TooDeep, BadParameter, NeedsAlignment, NoMemory}
 use Rattle.expr_reader.specs.declared.token.Name.{Name}
 use Rattle.expr_reader.specs.declared.node.Head.{Head}
 use Rattle.expr_reader.specs.declared.node.Head.TheVariants.{Number, Chosen}
 use Rattle.expr_reader.specs.declared.table.Allowed.{Allowed}
-use Rattle.expr_reader.specs.declared.table.Allowed.TheVariants.{Between, PowerOfTwo, AtMostNumber}
+use Rattle.expr_reader.specs.declared.table.Allowed.TheVariants.{Between, PowerOfTwo, MultipleOf, AtMostNumber}
 use Rattle.expr_reader.specs.declared.table.Alignment.{Alignment}
-use Rattle.expr_reader.specs.declared.table.Alignment.TheVariants.{AsBelow, Fixed, OfNumber}
+use Rattle.expr_reader.specs.declared.table.Alignment.TheVariants.{AsBelow, Fixed, OfNumber, Behind}
+use Rattle.affix_rules.specs.AffixRules.{alignment_behind}
 use Rattle.expr_reader.specs.Table.{profile_of}
 use Rattle.expr_reader.specs.Tokens.{Placed}
 use Rattle.expr_reader.specs.Trees.{Tree, leaf, node, Args, last, number, choice, layer, place_of}
@@ -34,19 +35,28 @@ abbrev pub own_alignment : Alignment → List Head → (below : ℕ) → ℕ
 own_alignment AsBelow hs below = below
 own_alignment (Fixed bytes) hs below = bytes
 own_alignment (OfNumber i) hs below = number_or below (slice_get hs i)
+own_alignment (Behind i) hs below = alignment_behind (number_or 0 (slice_get hs i)) below
+
+-- the alignment that is needed below: what the word has by itself, and 8 where there are bytes in front of its blocks
+abbrev pub own_need : Alignment → List Head → ℕ
+own_need AsBelow hs = 0
+own_need (Fixed bytes) hs = bytes
+own_need (OfNumber i) hs = number_or 0 (slice_get hs i)
+own_need (Behind i) hs = if nat_eq (number_or 0 (slice_get hs i)) 0 then 0 else 8
 
 -- the alignment of a word, from its numbers and the least alignment below it
 abbrev pub word_alignment : Name → List Head → (below : ℕ) → ℕ
 word_alignment k hs below = own_alignment (profile_of k).alignment hs below
 
--- the alignment that a layer needs below it: what it has by itself
+-- the alignment that a layer needs below it
 abbrev pub needs : Name → List Head → ℕ
-needs k hs = word_alignment k hs 0
+needs k hs = own_need (profile_of k).alignment hs
 
 -- whether the number is allowed, among all that its word has
 abbrev pub is_allowed : (all : List Head) → Allowed → ℕ → Bool
 is_allowed all (Between least most) n = is_between least most n
 is_allowed all (PowerOfTwo most) n = is_between 1 most n && is_power_of_two n
+is_allowed all (MultipleOf step most) n = nat_le n most && is_multiple n step
 is_allowed all (AtMostNumber i) n = nat_le n (number_or n (slice_get all i))
 
 -- The same of each number, in order. What the layer above gives to a word in place of numbers is the first argument.

@@ -1,11 +1,15 @@
 -- The shape that a tree stands for, in a Space that has made some leaves already: its leaves take the next tags, in preorder.
 use Rattle.std.specs.Prelude.{ℕ, ◌+◌, List, [], ◌∷◌}
+use Rattle.size_round.specs.Sizes.{RoundingKind, multiple_of, power_of_two}
 use Rattle.shapes.specs.Shape.{Shape}
 use Rattle.shapes.specs.Shape as shape
 use Rattle.expr_reader.specs.declared.token.Name.{Name}
 use Rattle.expr_reader.specs.declared.token.Name.TheVariants as name
+use Rattle.expr_reader.specs.declared.token.Choice.TheVariants.{Pow2}
 use Rattle.expr_reader.specs.declared.node.Head.{Head}
-use Rattle.expr_reader.specs.declared.node.Head.TheVariants.{Number}
+use Rattle.expr_reader.specs.declared.node.Head.TheVariants.{Number, Chosen}
+use Rattle.expr_reader.specs.declared.tree.RoundKind.{RoundKind}
+use Rattle.expr_reader.specs.declared.tree.RoundKind.TheVariants as kind
 use Rattle.expr_reader.specs.Trees.{Tree, leaf, node, Args, last, number, choice, layer}
 use Rattle.expr_reader.specs.Flaws.{heads}
 
@@ -32,10 +36,19 @@ abbrev mutual
   leaf_count_in (choice c args) = leaf_count_in args
   leaf_count_in (layer e args) = leaf_count e + leaf_count_in args
 
+-- the rounding of a quantizer
+abbrev pub kind_of : RoundKind → RoundingKind
+kind_of kind.Pow2 = power_of_two
+kind_of (kind.Step step) = multiple_of step
+
 -- The shape of a layer, from its numbers and the shapes below it. A word that isn't in the grammar yet stands for no memory at all.
 abbrev pub layer_shape : Name → List Head → List Shape → Shape
 layer_shape name.Region (Number size ∷ Number align ∷ []) (s ∷ []) = shape.region size align s
 layer_shape name.FreeList (Number least ∷ Number greatest ∷ []) (s ∷ []) = shape.freelist least greatest s
+layer_shape name.Quantize (Number step ∷ []) (s ∷ []) = shape.quantize (multiple_of step) s
+layer_shape name.Quantize (Chosen Pow2 ∷ []) (s ∷ []) = shape.quantize power_of_two s
+layer_shape name.Stats [] (s ∷ []) = shape.stats s
+layer_shape name.Affix (Number prefix ∷ Number suffix ∷ []) (s ∷ []) = shape.affix prefix suffix s
 layer_shape k hs ss = shape.null
 
 -- the shape of a tree

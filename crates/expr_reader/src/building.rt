@@ -1,21 +1,30 @@
 //! Building: from an expression to a closed composition of layers.
 
-ghost use Rattle.std.specs.Prelude.{◌≡◌, ℕ, ◌+◌, ◌≤◌, IfOk};
+ghost use Rattle.std.specs.Prelude.{◌≡◌, true, ℕ, ◌+◌, ◌≤◌, IfOk};
 ghost use Rattle.space_core.specs.Memory.{most_leaves};
 ghost use Rattle.layer_rules.specs.Layering.{IsShut};
+ghost use Rattle.size_round.specs.Sizes.{is_proper_kind};
+ghost use Rattle.quantize_rules.specs.QuantizeRules.{quantize_rules};
+ghost use Rattle.quantizer.specs.QuantizerProper.{IsProper};
+ghost use Rattle.composition.specs.CompositionModel.{composition_of};
+ghost use Rattle.composition.specs.LevelModel.{over_of};
 ghost use Rattle.shapes.specs.RulesOf.{rules_of};
 ghost use Rattle.expr_reader.specs.Trees.{tree_of};
 ghost use Rattle.expr_reader.specs.Grammar.{depth};
 ghost use Rattle.expr_reader.specs.Buildable.{IsBuildable};
-ghost use Rattle.expr_reader.specs.ShapeOf.{shape_of};
+ghost use Rattle.expr_reader.specs.ShapeOf.{shape_of, kind_of};
 ghost use Rattle.expr_reader.specs.Sound.{leaf_count, with_leaves, AcceptedAreCompositions, BuildableAreCompositions};
 
-use crate::tree::{Bounds, Expr, Form};
-use composition::{Composition, Leaf, LowerHalf, Over, Over4};
+use crate::tree::{Bounds, Expr, Form, RoundKind};
+use affix_layer::Affix;
+use composition::{Composition, Half, Leaf, Over, Over2, Quarter, ThreeQuarters};
 use free_list::FreeList;
 use layer_core::{Layer, NullLayer};
+use quantizer::Quantizer;
 use region_block::Region;
+use size_round::{Multiple, PowerOfTwo};
 use space_core::{NoMemory, Space};
+use stats_collector::StatsCollector;
 use std::alloc::Global;
 
 /// A level of a composition that builds itself, with all below it, from an expression.
@@ -36,7 +45,7 @@ trait Level: Layer {
 impl Level for Leaf {
     ghost levels = { 0 };
 
-    #[tactic(auto, unfolding(shapes::specs::RulesOf::rules_of))]
+    #[tactic(auto, unfolding(shapes::specs::RulesOf::rules_of, composition::specs::LeafModel::leaf_of))]
     fn build(_alloc: Global, expr: &Expr, space: &mut Space) -> Result<Leaf, NoMemory> {
         match &expr.form {
             Form::Null => Ok(Leaf::Null(NullLayer::new())),
@@ -50,10 +59,38 @@ impl Level for Leaf {
     }
 }
 
+/// A layer in memory of its own.
+fn boxed<L: Drop>(alloc: Global, layer: L) -> Result<Box<L>, NoMemory>
+    ensures { IfOk result (λ b. b.value ≡ layer) }
+{
+    Box::new(alloc, layer).map_err(|_failed| NoMemory)
+}
+
+/// A quantizer over the layer, by the rounding that is known only at run time.
+#[tactic(auto, unfolding(composition::specs::LevelModel::over_of))]
+fn quantizer<P: Layer>(alloc: Global, kind: RoundKind, below: P) -> Result<Over<P>, NoMemory>
+    requires kind { is_proper_kind (kind_of kind) ≡ true }
+    requires shut { IsShut (P.model below) }
+    requires proper { IsProper (P.model below).rules }
+    ensures rules { IfOk result (λ l. (over_of P.model l).rules ≡ quantize_rules (kind_of kind) (P.model below).rules) }
+    ensures shut { IfOk result (λ l. IsShut (over_of P.model l)) }
+{
+    match kind {
+        RoundKind::Step { step } => {
+            let layer = Quantizer::new(Multiple::new(step), below);
+            Ok(Over::QuantizeStep(boxed(alloc, layer)?))
+        }
+        RoundKind::Pow2 => {
+            let layer = Quantizer::new(PowerOfTwo, below);
+            Ok(Over::QuantizePow2(boxed(alloc, layer)?))
+        }
+    }
+}
+
 impl<P: Level> Level for Over<P> {
     ghost levels = { P.levels + 1 };
 
-    #[tactic(auto, using(crate::proofs::Nothing::nothing_fits), unfolding(shapes::specs::RulesOf::rules_of))]
+    #[tactic(auto, using(crate::proofs::Nothing::nothing_fits), unfolding(shapes::specs::RulesOf::rules_of, composition::specs::LevelModel::over_of))]
     fn build(alloc: Global, expr: &Expr, space: &mut Space) -> Result<Over<P>, NoMemory> {
         match &expr.form {
             Form::Region {
@@ -61,31 +98,71 @@ impl<P: Level> Level for Over<P> {
                 align,
                 parent,
             } => {
-                let below = P::build(alloc, parent, space)?;
-                let layer = Region::new(*size, *align, below);
-                Ok(Over::Region(Box::new(alloc, layer).map_err(|_failed| NoMemory)?))
+                let layer = Region::new(*size, *align, P::build(alloc, parent, space)?);
+                Ok(Over::Region(boxed(alloc, layer)?))
             }
             Form::FreeList { bounds, parent } => match *bounds {
                 Bounds::Range { min, max } => {
-                    let below = P::build(alloc, parent, space)?;
-                    let layer = FreeList::new(min, max, below);
-                    Ok(Over::FreeList(Box::new(alloc, layer).map_err(|_failed| NoMemory)?))
+                    let layer = FreeList::new(min, max, P::build(alloc, parent, space)?);
+                    Ok(Over::FreeList(boxed(alloc, layer)?))
                 }
                 // The word `any` is none of the grammar yet.
                 Bounds::Any => unreachable!(),
             },
+            Form::Quantize { kind, parent } => {
+                quantizer(alloc, *kind, P::build(alloc, parent, space)?)
+            }
+            Form::Stats { parent } => {
+                let layer = StatsCollector::new(P::build(alloc, parent, space)?);
+                Ok(Over::Stats(boxed(alloc, layer)?))
+            }
+            Form::Affix {
+                prefix,
+                suffix,
+                parent,
+            } => {
+                let layer = Affix::new(*prefix, *suffix, P::build(alloc, parent, space)?);
+                Ok(Over::Affix(boxed(alloc, layer)?))
+            }
             // The levels that are left over stand below the last layer.
             _ => Ok(Over::Pass(P::build(alloc, expr, space)?)),
         }
     }
 }
 
-impl Level for LowerHalf {
+impl Level for Quarter {
+    ghost levels = { 2 };
+
+    fn build(alloc: Global, expr: &Expr, space: &mut Space) -> Result<Quarter, NoMemory> {
+        let root = <Over2<Leaf>>::build(alloc, expr, space)?;
+        Ok(Quarter { root })
+    }
+}
+
+impl Level for Half {
     ghost levels = { 4 };
 
-    fn build(alloc: Global, expr: &Expr, space: &mut Space) -> Result<LowerHalf, NoMemory> {
-        let root = <Over4<Leaf>>::build(alloc, expr, space)?;
-        Ok(LowerHalf { root })
+    fn build(alloc: Global, expr: &Expr, space: &mut Space) -> Result<Half, NoMemory> {
+        let root = <Over2<Quarter>>::build(alloc, expr, space)?;
+        Ok(Half { root })
+    }
+}
+
+impl Level for ThreeQuarters {
+    ghost levels = { 6 };
+
+    fn build(alloc: Global, expr: &Expr, space: &mut Space) -> Result<ThreeQuarters, NoMemory> {
+        let root = <Over2<Half>>::build(alloc, expr, space)?;
+        Ok(ThreeQuarters { root })
+    }
+}
+
+impl Level for Composition {
+    ghost levels = { 8 };
+
+    fn build(alloc: Global, expr: &Expr, space: &mut Space) -> Result<Composition, NoMemory> {
+        let root = <Over2<ThreeQuarters>>::build(alloc, expr, space)?;
+        Ok(Composition { root })
     }
 }
 
@@ -98,8 +175,8 @@ pub fn build(alloc: Global, expr: &Expr, space: &mut Space) -> Result<Compositio
     requires buildable { IsBuildable (tree_of expr.now) }
     // The Space has room for its leaves.
     requires leaves { space.old.leaves + leaf_count (tree_of expr.now) ≤ most_leaves }
-    ensures rules { IfOk result (λ t. (⟦<Composition as Layer>⟧.model t).rules ≡ rules_of (shape_of (tree_of expr.now) space.old.leaves)) }
-    ensures shut { IfOk result (λ t. IsShut (⟦<Composition as Layer>⟧.model t)) }
+    ensures rules { IfOk result (λ t. (composition_of t).rules ≡ rules_of (shape_of (tree_of expr.now) space.old.leaves)) }
+    ensures shut { IfOk result (λ t. IsShut (composition_of t)) }
     // Only the count of leaves changes, whatever is answered.
     ensures space { space.new ≡ with_leaves (leaf_count (tree_of expr.now)) space.old }
 {

@@ -1,7 +1,7 @@
 //! The flaws of what was read, by the table of words.
 
 ghost use Rattle.std.specs.Prelude.{◌≡◌, ◌≤◌, ◌++◌, List, ℕ, map, min, length, slice_get, None, IfOk, OnOk};
-ghost use Rattle.size_round.specs.Sizes.{is_power_of_two, limit};
+ghost use Rattle.size_round.specs.Sizes.{is_multiple, is_power_of_two, limit};
 ghost use Rattle.expr_reader.specs.Nodes.{node_tree, args_tree};
 ghost use Rattle.expr_reader.specs.Trees.{place_of};
 ghost use Rattle.expr_reader.specs.Flaws as spec;
@@ -12,6 +12,7 @@ use crate::fault::ExprFault;
 use crate::node::{Args, Head, Node};
 use crate::table::{Alignment, Allowed, profile_of};
 use crate::token::{Name, Token};
+use affix_layer::alignment_behind;
 use size_round::{PowerOfTwo, Rounding};
 use std::alloc::{AllocError, Global};
 
@@ -35,6 +36,25 @@ fn own_alignment(alignment: Alignment, heads: &[Head], below: u64) -> u64
         Alignment::AsBelow => below,
         Alignment::Fixed { bytes } => bytes,
         Alignment::OfNumber { index } => number_or(below, heads, index),
+        Alignment::Behind { index } => alignment_behind(number_or(0, heads, index), below),
+    }
+}
+
+/// The alignment that is needed below.
+fn own_need(alignment: Alignment, heads: &[Head]) -> u64
+    ensures { result ≡ spec.own_need alignment heads.now }
+{
+    match alignment {
+        Alignment::AsBelow => 0,
+        Alignment::Fixed { bytes } => bytes,
+        Alignment::OfNumber { index } => number_or(0, heads, index),
+        Alignment::Behind { index } => {
+            if number_or(0, heads, index) == 0 {
+                0
+            } else {
+                8
+            }
+        }
     }
 }
 
@@ -53,6 +73,16 @@ fn is_power_of_two(n: u64) -> bool
     PowerOfTwo.round(n) == n
 }
 
+/// Whether the number is a multiple of the step; of 0 only 0 is.
+fn is_multiple(n: u64, step: u64) -> bool
+    ensures { result ≡ is_multiple n step }
+{
+    if step == 0 {
+        return n == 0;
+    }
+    n % step == 0
+}
+
 /// Whether the number is allowed, among all that its word has.
 fn is_allowed(all: &[Head], allowed: Allowed, n: u64) -> bool
     ensures { result ≡ spec.is_allowed all.now allowed n }
@@ -60,6 +90,7 @@ fn is_allowed(all: &[Head], allowed: Allowed, n: u64) -> bool
     match allowed {
         Allowed::Between { least, most } => least <= n && n <= most,
         Allowed::PowerOfTwo { most } => n >= 1 && n <= u64::from(most) && is_power_of_two(n),
+        Allowed::MultipleOf { step, most } => n <= most && is_multiple(n, step),
         Allowed::AtMostNumber { index } => n <= number_or(n, all, index),
     }
 }
@@ -282,7 +313,7 @@ fn layer_flaw(
     let mut head_places = Vec::new(alloc);
     put_places(args, places, &mut head_places)?;
     let low = unless(
-        word_alignment(name, heads, 0) <= align,
+        own_need(profile_of(name).alignment, heads) <= align,
         ExprFault::NeedsAlignment {
             at: first_place(args),
         },

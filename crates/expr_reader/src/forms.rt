@@ -4,13 +4,14 @@ ghost use Rattle.std.specs.Prelude.{◌≡◌, ◌≤◌, ℕ, suc, false, IfOk}
 ghost use Rattle.expr_reader.specs.Nodes.{node_tree, args_tree};
 ghost use Rattle.expr_reader.specs.Signatures.{left, takes, inner};
 ghost use Rattle.expr_reader.specs.Grammar.{Fits, FitsIn, depth, greatest_depth};
-ghost use Rattle.expr_reader.specs.Trees.{leaf, node, last, tree_of, form_tree};
+ghost use Rattle.expr_reader.specs.Trees.{leaf, node, last, tree_of, form_tree, kind_args};
 ghost use Rattle.expr_reader.specs.Trees as trees;
 ghost use Rattle.expr_reader.specs.declared.signature.Entry.TheVariants.{Alone};
+ghost use Rattle.expr_reader.specs.declared.token.Name.TheVariants.{Quantize};
 
 use crate::node::{Args, Node};
-use crate::token::Name;
-use crate::tree::{Bounds, Expr, Form};
+use crate::token::{Choice, Name};
+use crate::tree::{Bounds, Expr, Form, RoundKind};
 use std::alloc::{AllocError, Global};
 
 /// A number, behind which `more` numbers and the last layer come.
@@ -23,6 +24,24 @@ fn number(args: Args, more: u32) -> (u64, Args)
 {
     match args {
         Args::Number { value, rest } => (value, Box::into_inner(rest)),
+        _ => unreachable!(),
+    }
+}
+
+/// What a quantizer rounds up to, behind which the last layer comes.
+#[tactic(auto, using(crate::proofs::Nothing::nothing_fits))]
+fn round_kind(args: Args) -> (RoundKind, Args)
+    requires { FitsIn (args_tree args) (inner (takes Quantize)) }
+    ensures is { args_tree args ≡ kind_args result.0 (args_tree result.1) }
+    ensures behind { FitsIn (args_tree result.1) (left 0 0 false) }
+    ensures depth { greatest_depth (args_tree result.1) ≡ greatest_depth (args_tree args) }
+{
+    match args {
+        Args::Number { value, rest } => (RoundKind::Step { step: value }, Box::into_inner(rest)),
+        Args::Chosen { choice, rest } => match choice {
+            Choice::Pow2 => (RoundKind::Pow2, Box::into_inner(rest)),
+            Choice::Any => unreachable!(),
+        },
         _ => unreachable!(),
     }
 }
@@ -78,6 +97,25 @@ fn layer_form(alloc: Global, left: u32, name: Name, args: Args) -> Result<Form, 
             let parent = parent(alloc, left, args)?;
             let bounds = Bounds::Range { min, max };
             Ok(Form::FreeList { bounds, parent })
+        }
+        Name::Quantize => {
+            let (kind, args) = round_kind(args);
+            let parent = parent(alloc, left, args)?;
+            Ok(Form::Quantize { kind, parent })
+        }
+        Name::Stats => {
+            let parent = parent(alloc, left, args)?;
+            Ok(Form::Stats { parent })
+        }
+        Name::Affix => {
+            let (prefix, args) = number(args, 1);
+            let (suffix, args) = number(args, 0);
+            let parent = parent(alloc, left, args)?;
+            Ok(Form::Affix {
+                prefix,
+                suffix,
+                parent,
+            })
         }
         _ => unreachable!(),
     }

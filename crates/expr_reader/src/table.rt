@@ -5,7 +5,7 @@ ghost use Rattle.expr_reader.specs.Table.{profile_of, profile_data};
 ghost use Rattle.expr_reader.specs.Table as table;
 
 use crate::signature::{Entry, Signature};
-use crate::token::Name;
+use crate::token::{Choice, Name};
 
 /// The bytes that each place of a `null` is a multiple of.
 const NULL_ALIGNMENT: u64 = 65536;
@@ -17,6 +17,8 @@ pub enum Allowed {
     Between { least: u64, most: u64 },
     /// A power of two, from 1 to the greatest.
     PowerOfTwo { most: u32 },
+    /// A multiple of the step, from 0 to the greatest.
+    MultipleOf { step: u64, most: u64 },
     /// At most the word's number with this index, from 0.
     AtMostNumber { index: usize },
 }
@@ -29,6 +31,9 @@ pub enum Alignment {
     Fixed { bytes: u64 },
     /// The number with this index, from 0.
     OfNumber { index: usize },
+    /// What so many bytes in front of each block leave of that of what stands below, by the number with this index, from 0.
+    /// Where there are any, the word needs 8 below it.
+    Behind { index: usize },
 }
 
 /// What the table says of a word.
@@ -61,13 +66,13 @@ fn alone(bytes: u64) -> Profile
     }
 }
 
-/// Numbers, of which each may be so much, and a layer.
-fn over_one(allowed: &'static [Allowed], alignment: Alignment) -> Profile
+/// Numbers, of which each may be so much, or a word in their place, and a layer.
+fn over_one(choice: Option<Choice>, allowed: &'static [Allowed], alignment: Alignment) -> Profile
     requires { length allowed.now < 2 ^ 32 }
-    ensures { profile_data result ≡ table.over_one allowed.now alignment }
+    ensures { profile_data result ≡ table.over_one choice allowed.now alignment }
 {
     let signature = Signature {
-        choice: None,
+        choice,
         numbers: allowed.len() as u32,
         layers: 0,
         pairs: false,
@@ -87,6 +92,7 @@ pub fn profile_of(name: Name) -> Profile
         Name::Null => alone(NULL_ALIGNMENT),
         Name::Mem => alone(space_core::CELL_SIZE),
         Name::Region => over_one(
+            None,
             &[
                 Allowed::Between {
                     least: 1,
@@ -97,6 +103,7 @@ pub fn profile_of(name: Name) -> Profile
             Alignment::OfNumber { index: 1 },
         ),
         Name::FreeList => over_one(
+            None,
             &[
                 Allowed::AtMostNumber { index: 1 },
                 Allowed::Between {
@@ -105,6 +112,23 @@ pub fn profile_of(name: Name) -> Profile
                 },
             ],
             Alignment::AsBelow,
+        ),
+        Name::Quantize => over_one(
+            Some(Choice::Pow2),
+            &[Allowed::Between {
+                least: 1,
+                most: 1 << 30,
+            }],
+            Alignment::AsBelow,
+        ),
+        Name::Stats => over_one(None, &[], Alignment::AsBelow),
+        Name::Affix => over_one(
+            None,
+            &[
+                Allowed::MultipleOf { step: 8, most: 256 },
+                Allowed::MultipleOf { step: 8, most: 256 },
+            ],
+            Alignment::Behind { index: 0 },
         ),
         _ => missing(),
     }

@@ -1,23 +1,21 @@
 -- Lines that are put one after another, and the report.
-use Rattle.std.proofs.Common.{◌≡◌, ℕ, zero, suc, ◌+◌, ◌≤◌, ◌<◌, List, [], ◌∷◌, ◌++◌, length, take, drop, map, Option, Some, None, Result, Ok, Err, refl, sym, ap, ◌∙◌, subst, append_assoc, append-nil, arith, get_or, drop-cons, add-one, codes, ◌-◌}
+use Rattle.std.proofs.Common.{◌≡◌, ℕ, ◌+◌, ◌≤◌, ◌<◌, List, [], ◌∷◌, ◌++◌, length, take, drop, map, Option, Some, None, Result, Ok, Err, refl, sym, ap, ◌∙◌, subst, append_assoc, append-nil, get_or, drop-cons, add-one, codes, ◌-◌}
 use Rattle.std.specs.Prelude.{slice_get, IsErr}
 use Rattle.std.proofs.Math.ListN.{drop_of_length-le}
-use Rattle.std.proofs.lemmas.List.{take_all}
 use Rattle.space_core.specs.Memory.{Memory}
 use Rattle.layer_rules.specs.declared.Fact.{Fact}
-use Rattle.layer_rules.specs.declared.Stats.{Stats}
-use Rattle.layer_rules.specs.Fields.{stats_numbers}
 use Rattle.layer_rules.specs.Layering.{LayerModel, state_of}
 use Rattle.layer_rules.specs.Rules.{Rules}
 use Rattle.heap_core.specs.declared.Named.{Named}
 use Rattle.heap_core.specs.Holding.{run_in, world_of}
 use Rattle.heap_core.specs.Performing.{Run}
 use Rattle.source_sink.specs.declared.Failed.{Failed}
-use Rattle.play_core.proofs.Answered.{some_same}
 use Rattle.play_core.specs.declared.Status.TheVariants.{Good, WriteFault}
 use Rattle.play_core.specs.Devices.{Writing, PutsAll, Fails}
 use Rattle.play_core.specs.Lines.{joined}
-use Rattle.play_core.specs.ReportText.{and_lines, asked_in, extent_in, fact_line, node_lines, node_words, report_of, spaced, stats_line, total_line, total_lines}
+use Rattle.fact_text.specs.FactText.{and_lines, fact_line, node_lines}
+use Rattle.fact_text.specs.FactLemmas.{nodes_next}
+use Rattle.play_core.specs.ReportText.{asked_in, extent_in, report_of, total_line, total_lines}
 use Rattle.play_core.specs.Told.{line_piece, reported, text_of}
 use Rattle.play_core.specs.Ends.{LinesPut, PutsLines, Finishes}
 use Rattle.play_core.proofs.LineFacts.{joined-append}
@@ -73,17 +71,6 @@ pub lines_fail : (a b : Writing) (xs ys : List (List ℕ)) → PutsLines a b xs 
 lines_fail a b xs ys h = so_far_fails a a b (xs ++ ys) xs ys (so_far_none a (xs ++ ys)) h
 
 -- ---- the nodes
-
-pub and_append : (o : Option (List ℕ)) (lines : List (List ℕ)) → and_lines o lines ≡ and_lines o [] ++ lines
-and_append None lines = refl
-and_append (Some line) lines = refl
-
-pub nodes_next : (facts : List Fact) (node k : ℕ) (fact : Fact) → slice_get facts k ≡ Some fact → node_lines node (drop k facts) ≡ and_lines (fact_line node fact) [] ++ node_lines (node + 1) (drop (k + 1) facts)
-nodes_next [] node k fact h = absurd cc
-nodes_next (f ∷ fs) node zero fact h = ap (λ g. and_lines (fact_line node g) (node_lines (node + 1) fs)) (some_same h) ∙ and_append (fact_line node fact) (node_lines (node + 1) fs)
-nodes_next (f ∷ fs) node (suc k) fact h =
-    let e : suc (k + 1) ≡ suc k + 1 = omega arith in
-    nodes_next fs node k fact h ∙ ap (λ n. and_lines (fact_line node fact) [] ++ node_lines (node + 1) (drop n (f ∷ fs))) e
 
 -- one node more
 pub nodes_turn : (facts : List Fact) (k : ℕ) (fact : Fact) (a b c : Writing) → slice_get facts k ≡ Some fact → PutSoFar a b (node_lines 0 facts) (node_lines k (drop k facts)) → PutsAll b c (joined (and_lines (fact_line k fact) []))
@@ -147,12 +134,6 @@ node_some a b o line r e h = subst (λ (x : Option (List ℕ)). LinesPut a b (an
 
 pub node_none : (w : Writing) (o : Option (List ℕ)) → None ≡ o → PutsAll w w (joined (and_lines o []))
 node_none w o e = subst (λ (x : Option (List ℕ)). PutsAll w w (joined (and_lines x []))) e (puts_none w)
-
--- the line of a statistics layer, once all its numbers are put
-pub stats_told : (node i : ℕ) (stats : Stats) (numbers line all : List ℕ) → numbers ≡ stats_numbers stats → length numbers ≤ i → line ≡ node_words node (codes "stats") ++ spaced (take i numbers)
-    → all ≡ line ++ 10 ∷ [] → all ≡ stats_line node stats
-stats_told node i stats numbers line all n le l a =
-    a ∙ ap (λ xs. xs ++ 10 ∷ []) (l ∙ ap (λ ns. node_words node (codes "stats") ++ spaced ns) (take_all i numbers le ∙ n))
 
 -- the totals, line by line
 pub totals_put : (t : LayerModel) (table : List Named) (m : Memory) (a b : Writing) (live asked taken slack : ℕ) (x y z u : List ℕ) (r : Result (Unit {0}) Failed)

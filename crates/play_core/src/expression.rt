@@ -10,9 +10,9 @@ ghost use Rattle.play_core.specs.Telling.{cause_line, expression_text};
 
 use expr_reader::{Expr, ExprFault, build, buildable_are_compositions, print};
 use layer_core::{Layer, Offers};
+use line_text::{Line, push_number};
 use space_core::{NoMemory, Space};
 use std::alloc::{AllocError, Global};
-use trace_text::{Line, push_number};
 
 // The line that tells what is wrong with an expression, and where.
 fn cause_line(cause: &str, at: u64) -> Line

@@ -1,13 +1,24 @@
 // What no clause says of expressions: that each of these comes to its end with ample memory.
 use expr_reader::{Bounds, Expr, Form, Part, Parts, RoundKind, print, read};
+use std::alloc::Global;
+use std::process::Abort;
 use std::test::*;
 
 /// What a text is read as: its canonical text, or its fault.
-fn shown(rt: &HostRuntime, text: &str) -> Result<String, Fail> {
-    match read(rt.alloc(), text) {
-        Ok(expr) => print(rt.alloc(), &expr).map_err(|_| "out of memory".into()),
-        Err(fault) => format!(in rt.alloc(); "{fault}").map_err(|_| "out of memory".into()),
+fn shown(alloc: Global, text: &str) -> Result<String, Fail> {
+    match read(alloc, text) {
+        Ok(expr) => print(alloc, &expr).map_err(|_| "out of memory".into()),
+        Err(fault) => format!(in alloc; "{fault}").map_err(|_| "out of memory".into()),
     }
+}
+
+/// Each of these texts is read so.
+fn are_read(rt: &impl Abort, alloc: Global, table: &[(&str, &str)]) -> Result<(), Fail> {
+    for (text, answer) in table {
+        let found = shown(alloc, text)?;
+        assert_eq!(rt; found.as_str(), *answer);
+    }
+    Ok(())
 }
 
 #[test]
@@ -48,6 +59,17 @@ fn texts(rt: HostRuntime) -> Result<(), Fail> {
         ("region(64,16,region(64,8,mem))", "needs alignment at 13"),
         ("region(64,8,region(64,3,mem))", "needs alignment at 12"),
         ("region(0,16,mem", "syntax at 15"),
+        (
+            "region(64,128,freelist(16,64,mem))",
+            "needs alignment at 14",
+        ),
+    ];
+    are_read(&rt, rt.alloc(), &table)
+}
+
+#[test]
+fn texts_of_layers_with_one_parent(rt: HostRuntime) -> Result<(), Fail> {
+    let table = [
         ("freelist( 16, 064, mem)", "freelist(16,64,mem)"),
         ("freelist(0,8,null)", "freelist(0,8,null)"),
         ("freelist(0,7,mem)", "bad parameter at 11"),
@@ -56,16 +78,27 @@ fn texts(rt: HostRuntime) -> Result<(), Fail> {
         ("freelist(16,1073741824,mem)", "freelist(16,1073741824,mem)"),
         ("freelist(16,1073741825,mem)", "bad parameter at 12"),
         ("freelist(any,mem)", "syntax at 9"),
+        ("quantize( 016, mem)", "quantize(16,mem)"),
+        ("quantize(pow2 ,mem)", "quantize(pow2,mem)"),
+        ("quantize(0,mem)", "bad parameter at 9"),
+        ("quantize(1073741825,mem)", "bad parameter at 9"),
+        ("quantize(any,mem)", "syntax at 9"),
+        ("quantize(mem)", "syntax at 9"),
+        ("stats( null)", "stats(null)"),
+        ("stats(8,mem)", "syntax at 6"),
+        ("affix(8,0,mem)", "affix(8,0,mem)"),
+        ("affix(256,256,mem)", "affix(256,256,mem)"),
+        ("affix(264,8,mem)", "bad parameter at 6"),
+        ("affix(8,4,mem)", "bad parameter at 8"),
+        ("affix(8,0,region(64,4,mem))", "needs alignment at 10"),
+        ("affix(0,8,region(64,4,mem))", "affix(0,8,region(64,4,mem))"),
+        ("region(64,16,affix(8,8,mem))", "needs alignment at 13"),
         (
-            "region(64,128,freelist(16,64,mem))",
-            "needs alignment at 14",
+            "region(64,16,affix(48,8,mem))",
+            "region(64,16,affix(48,8,mem))",
         ),
     ];
-    for (text, answer) in &table {
-        let found = shown(&rt, text)?;
-        assert_eq!(rt; found.as_str(), *answer);
-    }
-    Ok(())
+    are_read(&rt, rt.alloc(), &table)
 }
 
 /// This piece so many times.
@@ -82,25 +115,29 @@ fn depth(rt: HostRuntime) -> Result<(), Fail> {
     let mut eight = repeated(&rt, "region(64,16,", 8)?;
     eight.push_str("mem").map_err(|_| "out of memory")?;
     eight.push_str("))))))))").map_err(|_| "out of memory")?;
-    let found = shown(&rt, &eight)?;
+    let found = shown(rt.alloc(), &eight)?;
     assert_eq!(rt; found.as_str(), eight.as_str());
     let mut nine = repeated(&rt, "region(64,16,", 9)?;
     nine.push_str("mem)))))))))").map_err(|_| "out of memory")?;
-    let found = shown(&rt, &nine)?;
+    let found = shown(rt.alloc(), &nine)?;
     assert_eq!(rt; found.as_str(), "too deep at 104");
+    let mut nine = repeated(&rt, "stats(", 9)?;
+    nine.push_str("mem)))))))))").map_err(|_| "out of memory")?;
+    let found = shown(rt.alloc(), &nine)?;
+    assert_eq!(rt; found.as_str(), "too deep at 48");
     Ok(())
 }
 
 #[test]
 fn long_texts(rt: HostRuntime) -> Result<(), Fail> {
     let parentheses = repeated(&rt, "(", 16_000)?;
-    let found = shown(&rt, &parentheses)?;
+    let found = shown(rt.alloc(), &parentheses)?;
     assert_eq!(rt; found.as_str(), "syntax at 0");
     let zeros = repeated(&rt, "0000000000", 100_000)?;
     let mut text = repeated(&rt, "region(", 1)?;
     text.push_str(&zeros).map_err(|_| "out of memory")?;
     text.push_str("8,8,mem)").map_err(|_| "out of memory")?;
-    let found = shown(&rt, &text)?;
+    let found = shown(rt.alloc(), &text)?;
     assert_eq!(rt; found.as_str(), "region(8,8,mem)");
     Ok(())
 }

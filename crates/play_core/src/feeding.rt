@@ -13,9 +13,10 @@ use crate::putting::{put_all, put_fault};
 use crate::reader::{MOST_INPUT, Reader};
 use heap_core::{Call, Heap};
 use layer_core::Layer;
+use line_text::Line;
 use source_sink::Sink;
 use space_core::Space;
-use trace_text::{Line, LineFault, TraceFault, answer_line, read_line};
+use trace_text::{LineFault, TraceFault, answer_line, read_line};
 
 // Performs one call, and puts its answer, which is formed in the line that is lent.
 fn perform_call<L: Layer, K: Sink>(

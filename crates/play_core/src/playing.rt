@@ -15,10 +15,10 @@ use crate::replaying::replay;
 use expr_reader::{Expr, build, buildable_are_compositions};
 use heap_core::{Heap, MakeFault};
 use layer_core::Layer;
+use line_text::{Line, push_number};
 use source_sink::{Sink, Source};
 use space_core::Space;
 use std::alloc::Global;
-use trace_text::{Line, push_number};
 
 // The line that tells which node refused to be opened.
 #[tactic(auto, unfolding(crate::specs::Telling::refused_text))]

@@ -6,9 +6,10 @@ ghost use Rattle.play_core.specs.Ends.{LinesPut, StopPut};
 ghost use Rattle.play_core.specs.Runs.{HandsOn, TextPut};
 
 use crate::{Status, Step};
+use line_text::Line;
 use source_sink::{Failed, Sink};
 use space_core::Space;
-use trace_text::{Line, TraceFault, fault_line};
+use trace_text::{TraceFault, fault_line};
 
 // What stands from there on.
 fn from(text: &[u8], at: usize) -> &[u8]

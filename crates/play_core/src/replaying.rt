@@ -14,9 +14,9 @@ use crate::report::put_report;
 use crate::{Status, Step};
 use heap_core::Heap;
 use layer_core::Layer;
+use line_text::Line;
 use source_sink::{Sink, Source};
 use space_core::Space;
-use trace_text::Line;
 
 // The first so many bytes.
 fn front(bytes: &[u8], count: usize) -> &[u8]

@@ -21,7 +21,7 @@ struct Row {
     told: &'static str,
 }
 
-const TRACES: [Row; 36] = [
+const TRACES: [Row; 40] = [
     // the examples
     Row {
         words: &["replay", "region(1024,16,mem)", "64"],
@@ -101,6 +101,33 @@ const TRACES: [Row; 36] = [
         trace: "a 1 10\na 2 100\ne 1 10\nf 2\ne 1 10\nf 1\na 3 64\na 4 64\n",
         status: Status::Good,
         told: "a 1 0\na 2 16\ne 1 false\nf 2 true\ne 1 true\nf 1 true\na 3 0\na 4 64\nlive 2\nasked 128\nextent 128\nslack 0\nnode 1 region room 128 longest 128\nnode 2 mem cells 4\n",
+    },
+    // a quantizer's block grows into what is left of its quantum before the parent is asked
+    Row {
+        words: &["replay", "quantize(pow2,mem)", "64"],
+        trace: "a 1 100\ne 1 28\ne 1 1\nr 1 140\n",
+        status: Status::Good,
+        told: "a 1 0\ne 1 true\ne 1 true\nr 1 true 0\nlive 1\nasked 140\nextent 256\nslack 116\nnode 1 mem cells 4\n",
+    },
+    // what a refused call counts, and that it does nothing else
+    Row {
+        words: &["replay", "stats(region(64,16,mem))", "64"],
+        trace: "a 1 32\nr 1 65\n",
+        status: Status::Good,
+        told: "a 1 0\nr 1 false\nlive 1\nasked 32\nextent 32\nslack 0\nnode 0 stats 0 1 1 0 0 1 0 0 0 0 32 32 0 0 32\nnode 1 region room 32 longest 32\nnode 2 mem cells 1\n",
+    },
+    Row {
+        words: &["replay", "stats(quantize(16,region(256,16,mem)))", "64"],
+        trace: "a 1 0\na 1 20\ne 1 4\na 2 10\nr 1 40\no 1\nf 2\na 3 300\n",
+        status: Status::Good,
+        told: "a 1 null\na 1 0\ne 1 true\na 2 32\nr 1 true 48\no 1 true\nf 2 false\na 3 null\nlive 1\nasked 40\nextent 48\nslack 8\nnode 0 stats 1 3 2 1 1 1 1 0 1 0 40 50 24 8 50\nnode 2 region room 160 longest 160\nnode 3 mem cells 4\n",
+    },
+    // bytes in front of each block and behind it
+    Row {
+        words: &["replay", "affix(8,8,region(1024,16,mem))", "64"],
+        trace: "a 1 20\nw 1 0 ff\ne 1 10\nd 1 0 2\nd 1 20 10\n",
+        status: Status::Good,
+        told: "a 1 8\nw 1 ok\ne 1 true\nd 1 ff00\nd 1 00000000000000000000\nlive 1\nasked 30\nextent 48\nslack 18\nnode 1 region room 976 longest 976\nnode 2 mem cells 16\n",
     },
     // no line, and words with blanks and zeros
     Row {
@@ -336,7 +363,7 @@ const FAILINGS: [Failing; 7] = [
 ];
 
 // Expressions without a fault, and what stands in them.
-const EXPRESSIONS: [(&str, &str); 7] = [
+const EXPRESSIONS: [(&str, &str); 9] = [
     (
         "region(1024, 16, mem)",
         "region(1024,16,mem)\nnodes 2\nalign 16\noffers owns expand aligned all\n",
@@ -357,6 +384,14 @@ const EXPRESSIONS: [(&str, &str); 7] = [
     (
         "region(1,1,region(2,2,region(3,4,region(4,8,region(5,16,region(6,32,region(7,64,region(8,64,mem))))))))",
         "region(1,1,region(2,2,region(3,4,region(4,8,region(5,16,region(6,32,region(7,64,region(8,64,mem))))))))\nnodes 9\nalign 1\noffers owns expand aligned all\n",
+    ),
+    (
+        "quantize(pow2,stats(affix(8,8,mem)))",
+        "quantize(pow2,stats(affix(8,8,mem)))\nnodes 4\nalign 8\noffers expand all\n",
+    ),
+    (
+        "affix(0,8,quantize(16,null))",
+        "affix(0,8,quantize(16,null))\nnodes 3\nalign 65536\noffers owns expand all\n",
     ),
     (
         "freelist(8, 64, mem)",

@@ -10,14 +10,10 @@ mod read;
 mod tests;
 mod values;
 
-use arrayvec::ArrayString;
 use heap_core::CallFault;
-pub use print::{answer_line, fault_line, print_call, push_number};
+pub use print::{answer_line, fault_line, print_call};
 pub use read::read_line;
 use thiserror::Error;
-
-/// A line of text, of at most 512 bytes.
-pub type Line = ArrayString<512>;
 
 /// Why a line is no call.
 #[derive(Clone, Copy, Debug, PartialEq, Eq, Error)]

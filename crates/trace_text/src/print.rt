@@ -4,19 +4,9 @@ ghost use Rattle.std.specs.Char.{digit_char};
 ghost use Rattle.arrayvec.specs.ArrayString.{array_string_len};
 ghost use Rattle.trace_text.specs.Text.{answer_text, call_text, fault_text, fault_words, line_fault_words, call_fault_words, asked_text, most_asked, octets_text, path_text, said_text};
 
-use crate::{Line, LineFault, TraceFault};
+use crate::{LineFault, TraceFault};
 use heap_core::{Answer, Call, CallFault, Octets, Path};
-use itoa::Buffer;
-
-/// Appends a number in digits, with no zero in front, to a line that has room for the 20 of the longest.
-pub fn push_number(line: &mut Line, number: u64)
-    requires { array_string_len line.old + 20 ≤ 512 }
-    ensures bytes { line.new.bytes ≡ line.old.bytes ++ decimal number }
-    ensures len { array_string_len line.new ≤ array_string_len line.old + 20 }
-{
-    let mut buffer = Buffer::new();
-    line.push_str(buffer.format(number));
-}
+use line_text::{Line, push_number};
 
 // Appends words and a number.
 fn push_counted(line: &mut Line, words: &str, number: u64)

@@ -1,6 +1,7 @@
 // What no clause says: that the grammar and the texts are the ones that were meant.
-use crate::{Line, LineFault, TraceFault, answer_line, fault_line, print_call, read_line};
+use crate::{LineFault, TraceFault, answer_line, fault_line, print_call, read_line};
 use heap_core::{Answer, Call, CallFault, Octets};
+use line_text::Line;
 
 // Each call, in its own spelling and in an odd one.
 const SPELLINGS: [(&str, &str); 17] = [

@@ -1,7 +1,7 @@
 use Rattle.std.proofs.Common.{drop}
 use Rattle.layer_rules.specs.Layering.{state_of}
 use Rattle.play_core.specs.Devices.{writing}
-use Rattle.play_core.specs.ReportText.{node_lines}
+use Rattle.fact_text.specs.FactText.{node_lines}
 use Rattle.play_core.proofs.ReportLemmas.{PutSoFar}
 use Rattle.play_core.proofs.report.put_nodes.Given as goal
 

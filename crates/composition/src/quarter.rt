@@ -1,20 +1,20 @@
-// The lower half of a composition, where the check of the upper half's users ends.
-use crate::{Leaf, Over4};
+// The lowest two levels, and the end.
+use crate::{Leaf, Over2};
 use layer_core::{Asked, Block, Fact, Layer, Offers, Path, Refused};
 use space_core::Space;
 
-/// The lower four levels of a composition, and its end: no node, and no layer on a path. Each call does what
+/// The lowest two levels of a composition, and its end: no node, and no layer on a path. Each call does what
 /// the layer inside does.
 #[derive(Drop)]
-pub struct LowerHalf {
+pub struct Quarter {
     /// The layers themselves.
-    pub root: Over4<Leaf>,
+    pub root: Over2<Leaf>,
 }
 
-impl Layer for LowerHalf {
-    ghost use Rattle.composition.specs.HalfModel.{lower_of, lower_made};
+impl Layer for Quarter {
+    ghost use Rattle.composition.specs.QuarterModel.{quarter_of, quarter_made};
 
-    ghost model = { lower_of };
+    ghost model = { quarter_of };
 
     fn nodes(&self) -> u32 {
         self.root.nodes()
@@ -96,5 +96,5 @@ impl Layer for LowerHalf {
         self.root.state_number(node, k)
     }
 
-    ghost made = { λ l. lower_made l };
+    ghost made = { λ l. quarter_made l };
 }

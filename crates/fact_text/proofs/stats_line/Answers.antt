@@ -1,6 +1,6 @@
 use Rattle.std.proofs.Common.{arith, length, ap}
-use Rattle.play_core.proofs.ReportLemmas.{stats_told}
-use Rattle.play_core.proofs.report.stats_line.Goals as goal
+use Rattle.fact_text.proofs.StatsLines.{stats_told}
+use Rattle.fact_text.proofs.stats_line.Goals as goal
 
 pub returns : goal.returns
 returns c =

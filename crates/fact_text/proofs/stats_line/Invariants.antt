@@ -1,7 +1,7 @@
 use Rattle.std.proofs.Common.{◌≡◌, ◌≤◌, ◌+◌, ◌*◌, ◌++◌, codes, take}
 use Rattle.arrayvec.specs.ArrayString.{array_string_len}
-use Rattle.play_core.specs.ReportText.{node_words, spaced}
-use Rattle.play_core.proofs.report.stats_line.Given as goal
+use Rattle.fact_text.specs.FactText.{node_words, spaced}
+use Rattle.fact_text.proofs.stats_line.Given as goal
 
 abbrev pub invariant-loop-number : goal.invariant-loop-number
 invariant-loop-number l = record {
