@@ -1,0 +1,6 @@
+pub mod Ticket
+pub mod Events
+pub mod Owned
+pub mod Plans
+pub mod Reports
+pub mod Rows

@@ -1,0 +1,209 @@
+//! A heap with a vector of its blocks, for code that keeps many of them.
+ghost use Rattle.std.specs.Prelude.{◌≡◌, ◌+◌, ◌-◌, ◌≤◌, ◌<◌, ◌++◌, ◌∷◌, true, false, [], not, length, min, take, drop, slice_get, slice_set, slice_range, OnOk, OnErr};
+ghost use Rattle.space_core.specs.Words.{write_from};
+
+use crate::block::OwnedBlock;
+use crate::heap::OwnedHeap;
+use layer_core::Layer;
+use std::alloc::{AllocError, Global};
+use std::marker::Model;
+
+/// Blocks of a heap, by their numbers from 0 on. Contracts see the bytes of each as a row, in the order of the pushes.
+///
+/// That the blocks are live and share no byte is true of every such vector, so a loop over one needs no fact of its own.
+#[derive(Drop)]
+pub struct BlockVec<L: Layer> {
+    heap: OwnedHeap<L>,
+    blocks: Vec<OwnedBlock>,
+}
+
+impl<L: Layer> Model for BlockVec<L> {
+    ghost use Rattle.std.specs.Prelude.{vec_capacity};
+    ghost use Rattle.owned_heap.specs.Rows.{Rows, rows_of, AreRows};
+
+    ghost Value = { Rows L };
+
+    ghost view = { λ a. record { rows = rows_of a.heap a.blocks.items; blocks = a.blocks.items; capacity = vec_capacity a.blocks; heap = a.heap } };
+
+    ghost invariant = { λ a. AreRows a.heap a.blocks.items };
+}
+
+impl<L: Layer> BlockVec<L> {
+    ghost use Rattle.std.specs.Prelude.{◌==◌};
+    ghost use Rattle.std.specs.List.{swap_remove, SameBelow};
+    ghost use Rattle.std.specs.Bool.{OnTrue, OnFalse};
+    ghost use Rattle.owned_heap.specs.Owned.{is_refused, AllocatesIn, ReallocatesIn, DeallocatesIn};
+    ghost use Rattle.owned_heap.specs.Rows.{row_of, block_at};
+
+    /// No block of this heap yet.
+    pub fn new(alloc: Global, heap: OwnedHeap<L>) -> BlockVec<L>
+        ensures rows { result.rows ≡ [] }
+        ensures capacity { result.capacity ≡ 0 }
+        ensures heap { result.heap ≡ heap }
+    {
+        BlockVec {
+            heap,
+            blocks: Vec::new(alloc),
+        }
+    }
+
+    /// The heap, for what it says of itself.
+    pub fn heap(&self) -> &OwnedHeap<L>
+        ensures { result.now ≡ self.now.heap }
+    {
+        &self.heap
+    }
+
+    /// Makes room for so many blocks more, so that `push` needs none.
+    ///
+    /// # Errors
+    /// Where the process has no memory for them. All is as before then.
+    pub fn reserve(&mut self, additional: usize) -> Result<(), AllocError>
+        ensures room { OnOk result (length self.old.rows + additional ≤ self.new.capacity) }
+        ensures err { OnErr result (self.new.capacity ≡ self.old.capacity) }
+        ensures rows { self.new.rows ≡ self.old.rows }
+        ensures blocks { self.new.blocks ≡ self.old.blocks }
+        ensures heap { self.new.heap ≡ self.old.heap }
+    {
+        self.blocks.reserve(additional)
+    }
+
+    /// How many blocks there are.
+    pub fn len(&self) -> usize
+        ensures { result ≡ length self.now.rows }
+    {
+        self.blocks.len()
+    }
+
+    /// Whether there is none.
+    pub fn is_empty(&self) -> bool
+        ensures { result ≡ (length self.now.rows == 0) }
+    {
+        self.blocks.is_empty()
+    }
+
+    /// Puts a block of `n` bytes at the end, or answers `false` where 0 bytes are asked, the root refuses, or the process
+    /// has no memory for one more, which it needs none for where room was reserved. What the bytes are isn't said.
+    pub fn push(&mut self, n: u64) -> bool
+        ensures served { OnTrue result (is_refused L.model self.old.heap n ≡ false) }
+        ensures succeeds { length self.old.rows < self.old.capacity → result ≡ not (is_refused L.model self.old.heap n) }
+        ensures row { OnTrue result (self.new.rows ≡ self.old.rows ++ row_of self.new.rows (length self.old.rows) ∷ []) }
+        ensures size { OnTrue result (length (row_of self.new.rows (length self.old.rows)) ≡ n) }
+        ensures len { OnTrue result (length self.new.rows ≡ length self.old.rows + 1) }
+        ensures same { OnFalse result (self.new.rows ≡ self.old.rows) }
+        ensures capacity { self.old.capacity ≤ self.new.capacity }
+        ensures rule { OnTrue result (AllocatesIn L.model self.old.heap self.new.heap n (slice_get self.new.blocks (length self.old.rows))) }
+    {
+        if self.blocks.reserve(1).is_err() {
+            return false;
+        }
+        match self.heap.allocate(n) {
+            Some(block) => {
+                self.blocks.push_reserved(block);
+                true
+            }
+            None => false,
+        }
+    }
+
+    /// The block itself, which tells its place.
+    pub fn block(&self, index: usize) -> &OwnedBlock
+        requires { index < length self.now.rows }
+        ensures { result.now ≡ block_at self.now.blocks index }
+    {
+        &self.blocks[index]
+    }
+
+    /// The bytes of a block.
+    pub fn bytes(&self, index: usize) -> &[u8]
+        requires { index < length self.now.rows }
+        ensures { result.now ≡ row_of self.now.rows index }
+    {
+        self.heap.bytes(&self.blocks[index])
+    }
+
+    /// Writes all bytes of a block.
+    pub fn write(&mut self, index: usize, bytes: &[u8])
+        requires inside { index < length self.old.rows }
+        requires size { length bytes.now ≡ length (row_of self.old.rows index) }
+        ensures rows { self.new.rows ≡ slice_set self.old.rows index bytes.now }
+        ensures len { length self.new.rows ≡ length self.old.rows }
+        ensures blocks { self.new.blocks ≡ self.old.blocks }
+        ensures capacity { self.new.capacity ≡ self.old.capacity }
+    {
+        let block = &self.blocks[index];
+        self.heap.write(block, bytes);
+    }
+
+    /// Writes bytes of a block, from one of them on.
+    pub fn write_at(&mut self, index: usize, at: u64, bytes: &[u8])
+        requires inside { index < length self.old.rows }
+        requires room { at + length bytes.now ≤ length (row_of self.old.rows index) }
+        ensures rows { self.new.rows ≡ slice_set self.old.rows index (write_from (row_of self.old.rows index) at bytes.now) }
+        ensures written { slice_range (row_of self.new.rows index) at (at + length bytes.now) ≡ bytes.now }
+        ensures before { take at (row_of self.new.rows index) ≡ take at (row_of self.old.rows index) }
+        ensures behind { drop (at + length bytes.now) (row_of self.new.rows index) ≡ drop (at + length bytes.now) (row_of self.old.rows index) }
+        ensures size { length (row_of self.new.rows index) ≡ length (row_of self.old.rows index) }
+        ensures len { length self.new.rows ≡ length self.old.rows }
+        ensures blocks { self.new.blocks ≡ self.old.blocks }
+        ensures capacity { self.new.capacity ≡ self.old.capacity }
+    {
+        let block = &self.blocks[index];
+        self.heap.write_at(block, at, bytes);
+    }
+
+    /// Gives a block the length `n`, at least 1, where it stands or elsewhere. Of its bytes those are kept that both lengths
+    /// have. Where it answers `false` all is as before.
+    pub fn reallocate(&mut self, index: usize, n: u64) -> bool
+        requires inside { index < length self.old.rows }
+        requires some { 1 ≤ n }
+        ensures row { OnTrue result (self.new.rows ≡ slice_set self.old.rows index (row_of self.new.rows index)) }
+        ensures size { OnTrue result (length (row_of self.new.rows index) ≡ n) }
+        ensures kept { OnTrue result (take (min (length (row_of self.old.rows index)) n) (row_of self.new.rows index) ≡ take n (row_of self.old.rows index)) }
+        ensures by_index { OnTrue result (SameBelow (row_of self.old.rows index) (row_of self.new.rows index) (min (length (row_of self.old.rows index)) n)) }
+        ensures same { OnFalse result (self.new.rows ≡ self.old.rows) }
+        ensures len { length self.new.rows ≡ length self.old.rows }
+        ensures capacity { self.new.capacity ≡ self.old.capacity }
+        ensures rule { ReallocatesIn L.model self.old.heap self.new.heap (block_at self.old.blocks index) (block_at self.new.blocks index) n result }
+    {
+        let block = &mut self.blocks[index];
+        self.heap.reallocate(block, n)
+    }
+
+    /// Gives the last block back. It answers `false` where the layer that serves it can't reuse it yet.
+    pub fn pop(&mut self) -> bool
+        requires { 0 < length self.old.rows }
+        ensures rows { self.new.rows ≡ take (length self.old.rows - 1) self.old.rows }
+        ensures len { length self.new.rows + 1 ≡ length self.old.rows }
+        ensures capacity { self.new.capacity ≡ self.old.capacity }
+        ensures rule { DeallocatesIn L.model self.old.heap self.new.heap (block_at self.old.blocks (length self.old.rows - 1)) result }
+    {
+        let block = self.blocks.take_last();
+        self.heap.deallocate(block)
+    }
+
+    /// Gives a block back. The last one gets its number. It answers `false` where the layer that serves it can't reuse it yet.
+    pub fn swap_remove(&mut self, index: usize) -> bool
+        requires { index < length self.old.rows }
+        ensures rows { self.new.rows ≡ swap_remove self.old.rows index [] }
+        ensures len { length self.new.rows + 1 ≡ length self.old.rows }
+        ensures capacity { self.new.capacity ≡ self.old.capacity }
+        ensures rule { DeallocatesIn L.model self.old.heap self.new.heap (block_at self.old.blocks index) result }
+    {
+        let block = self.blocks.swap_remove(index);
+        self.heap.deallocate(block)
+    }
+
+    /// Gives all blocks back: at once where the root offers that, and else the last one first.
+    pub fn clear(&mut self)
+        ensures rows { self.new.rows ≡ [] }
+        ensures capacity { self.new.capacity ≡ self.old.capacity }
+    {
+        if self.heap.deallocate_all() {
+            self.blocks.clear();
+        }
+        while !self.is_empty() {
+            self.pop();
+        }
+    }
+}
