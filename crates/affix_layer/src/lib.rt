@@ -3,8 +3,6 @@
 
 mod affixing;
 pub mod laws;
-#[cfg(test)]
-mod tests;
 
 ghost use Rattle.std.specs.Prelude.{◌≡◌, ◌≤◌};
 ghost use Rattle.size_round.specs.Sizes.{power_part};

@@ -2,8 +2,6 @@
 #![tactic(auto, unfolding(free_list_rules::specs::FreeListRules::free_list_rules))]
 
 mod caching;
-#[cfg(test)]
-mod tests;
 
 ghost use Rattle.std.specs.Prelude.{◌≡◌};
 ghost use Rattle.size_round.specs.Sizes.{is_between};

@@ -5,8 +5,6 @@ mod heap;
 pub mod laws;
 pub mod runs;
 mod table;
-#[cfg(test)]
-mod tests;
 
 pub use heap::{Heap, MakeFault};
 pub use layer_core::{Block, Octets, Path};

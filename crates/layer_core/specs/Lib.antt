@@ -1,4 +1,3 @@
-pub mod Between
 pub mod LeafMade
 pub mod LeafModel
 pub mod NullMade

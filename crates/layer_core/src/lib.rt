@@ -1,12 +1,9 @@
 //! The trait of all layers, and the leaf.
 #![tactic(auto, unfolding(leaf_rules::specs::MemRules::mem_rules, layer_rules::specs::NullRules::null_rules))]
 
-pub mod calls;
 mod mem;
 mod null;
 mod short;
-#[cfg(test)]
-mod tests;
 
 ghost use Rattle.std.specs.Prelude.{◌≡◌, ◌≤◌, ◌<◌, true, length, drop};
 ghost use Rattle.size_round.specs.Sizes.{limit, is_power_of_two};
@@ -15,7 +12,6 @@ ghost use Rattle.layer_rules.specs.Rules.{owns_along};
 ghost use Rattle.layer_rules.specs.Layering.{LayerModel, kept_state, Stands, IsSetUp, IsShut, IsOutOf, IsMarkedOf, IsRoutedIn, SetsUp, TearsDown, Allocates, AlignedAllocates, Expands, Reallocates, ReallocatesGenerally, MovesBlock, Deallocates, DeallocatesAll, Owns, IsFactOf, numbers_at, IsNumberOf};
 ghost use Rattle.layer_laws.specs.Lawful.{IsMade, yes_if};
 
-pub use calls::space_and_leaf;
 pub use layer_rules::{Asked, Block, Fact, Offers, Refused};
 pub use null::NullLayer;
 pub use short::{Octets, Path, Short};

@@ -5,8 +5,6 @@ ghost use Rattle.std.specs.Prelude.{◌≡◌};
 ghost use Rattle.play_core.specs.Codes.{code_of};
 
 mod expression;
-#[cfg(test)]
-mod expression_tests;
 mod feeding;
 pub mod laws;
 mod playing;
@@ -14,8 +12,6 @@ mod putting;
 mod reader;
 mod replaying;
 mod report;
-#[cfg(test)]
-mod tests;
 mod top;
 mod words;
 

@@ -2,8 +2,6 @@
 #![tactic(auto, unfolding(quantize_rules::specs::QuantizeRules::quantize_rules, layer_rules::specs::Handing::handing_rules))]
 
 mod quantizing;
-#[cfg(test)]
-mod tests;
 
 ghost use Rattle.std.specs.Prelude.{◌≡◌, ◌≤◌};
 ghost use Rattle.size_round.specs.Sizes.{limit};

@@ -5,7 +5,5 @@
 #![tactic(auto, unfolding(quota_rules::specs::QuotaRules::quota_rules, layer_rules::specs::Handing::handing_rules))]
 
 mod limit;
-#[cfg(test)]
-mod tests;
 
 pub use limit::Quota;

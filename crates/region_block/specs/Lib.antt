@@ -1,4 +1,3 @@
 pub mod RegionMade
 pub mod RegionProper
 pub mod RegionModel
-pub mod Trials

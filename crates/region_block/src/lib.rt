@@ -2,8 +2,6 @@
 #![tactic(auto, unfolding(region_rules::specs::RegionRules::region_rules))]
 
 mod bump;
-#[cfg(test)]
-mod tests;
 
 ghost use Rattle.std.specs.Prelude.{◌≡◌};
 ghost use Rattle.layer_rules.specs.Setting.{need_of};

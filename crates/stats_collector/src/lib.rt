@@ -3,8 +3,6 @@
 
 mod collector;
 mod counting;
-#[cfg(test)]
-mod tests;
 
 pub use collector::StatsCollector;
 pub use counting::in_order;

@@ -6,8 +6,6 @@ ghost use Rattle.trace_text.specs.Laws.{PrintedIsRead, ReadIsSpelled, ReadIsSaya
 mod fields;
 mod print;
 mod read;
-#[cfg(test)]
-mod tests;
 mod values;
 
 use heap_core::CallFault;
