@@ -6,3 +6,5 @@ pub mod RowParts
 pub mod RowKept
 pub mod RowCalls
 mod Reporting
+pub mod Altering
+pub mod Clearing

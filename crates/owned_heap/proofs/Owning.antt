@@ -302,6 +302,9 @@ set-inside b m m' i v lt e =
 pub put-inside : (b : Block) (m m' : Memory) (at : ℕ) (given : List ℕ) → at + length given ≤ b.len → m' ≡ record m { bytes = write_from m.bytes (b.place + at) given } → Writes b m m'
 put-inside b m m' at given r e = subst (λ (u : Memory). Writes b m u) (sym e) (bytes-inside b m (b.place + at) given (omega arith) (omega arith))
 
+pub replaced-inside : (b : Block) (m m' : Memory) (given : List ℕ) → length given ≡ b.len → m' ≡ record m { bytes = write_from m.bytes b.place given } → Writes b m m'
+replaced-inside b m m' given r e = subst (λ (u : Memory). Writes b m u) (sym e) (bytes-inside b m b.place given (omega arith) (omega (arith, r)))
+
 -- ---- a block at a multiple
 
 module _ (t t' : LayerModel) (m m' : Memory) (events : List Event) (n a : ℕ) (r : Option Block) (l : IsMade t.rules) (h : IsOwned t m events) (p : is_power_of_two a ≡ true) (q : a ≤ 4096) (s : AlignedAllocates t t' m m' n a r) where

@@ -1,5 +1,5 @@
 -- Planning: layers of which each has one more than the one below, and the heap that is made of them.
-use Rattle.std.proofs.Common.{◌≡◌, ◌≢◌, refl, sym, ap, subst, ◌∙◌, ℕ, zero, suc, ◌+◌, ◌≤◌, Bool, true, false, ◌||◌, nat_eq, ◌⊎◌, inl, inr, List, [], ◌∷◌, length, replicate, arith}
+use Rattle.std.proofs.Common.{◌≡◌, ◌≢◌, refl, sym, ap, subst, ◌∙◌, ℕ, zero, suc, ◌+◌, ◌≤◌, Bool, true, false, ◌||◌, Ok, Err, nat_eq, ◌⊎◌, inl, inr, List, [], ◌∷◌, length, replicate, arith}
 use Rattle.std.proofs.lemmas.Bool.Decides.{nat_tests}
 use Rattle.std.specs.List.{count_by}
 use Rattle.size_round.specs.Sizes.{size_bound, rounded, power_from, is_power_of_two}
@@ -9,11 +9,12 @@ use Rattle.space_core.specs.Memory.{Memory, IsMemory, no_memory, fresh_memory}
 use Rattle.std.proofs.lemmas.List.{length-replicate}
 use Rattle.layer_rules.specs.Rules.{Rules, IsIn}
 use Rattle.layer_rules.specs.Rows.{EachPair}
-use Rattle.layer_rules.specs.Layering.{LayerModel, Stands, IsShut}
+use Rattle.layer_rules.specs.After.{Opening, opened}
+use Rattle.layer_rules.specs.Layering.{LayerModel, Stands, IsShut, OpensAs, state_of}
 use Rattle.layer_laws.specs.Lawful.{IsMade}
 use Rattle.layer_laws.specs.StandingLaws.{shut-stands_again}
 use Rattle.region_block.specs.RegionProper.{IsProper}
-use Rattle.owned_heap.specs.Plans.{IsFresh, IsPlan, HasRoom, IsOneMore, is_alignment}
+use Rattle.owned_heap.specs.Plans.{IsFresh, IsPlan, HasRoom, IsOneMore, is_alignment, opening_in}
 
 pub over-same : (t t' : LayerModel) (m : Memory) → IsPlan t m → IsShut t' → t'.rules.leaf_tags ≡ t.rules.leaf_tags → IsPlan t' m
 over-same t t' m p u e = record { fresh = p.fresh; shut = u; tags = e ∙ p.tags }
@@ -77,6 +78,16 @@ plan-stands t m l p =
     one : (n : ℕ) → IsIn (1 ∷ []) n → n ≡ 1
     one n (inl e) = e
     one n (inr k) = absurd k
+
+pub opened-well : (o : Opening) (t' : LayerModel) (m m' : Memory) (done : Unit {0}) → OpensAs o t' m m' (Ok done) → o ≡ Ok (opened (state_of t' m') m'.cells)
+opened-well (Ok o) t' m m' done h = ap (λ s. Ok (opened s o.cells)) (sym h.0) ∙ ap (λ z. Ok (opened (state_of t' m') z)) (sym h.1)
+opened-well (Err node) t' m m' done h = absurd h
+
+-- in a fresh Space all cells are free
+pub plan-opens : {L : Type 0} (model : L → LayerModel) (root : L) (m : Memory) (a n d : ℕ) → IsFresh m
+    → opening_in model (record { root = root; cells = length m.cells.tags; alignment = a; nodes = n; depth = d }) ≡ (model root).rules.set_up 0 m.cells
+unfolding opening_in
+plan-opens model root m a n d f = ap (λ (u : Memory). (model root).rules.set_up 0 u.cells) (sym f.same)
 
 -- ---- a fresh Space with one leaf
 

@@ -1,8 +1,9 @@
 -- RowParts: parts of lists of blocks, of lists of rows, and of a row that is written.
-use Rattle.std.proofs.Common.{◌≡◌, ◌≢◌, refl, sym, ap, ◌∙◌, ℕ, suc, zero, ◌+◌, min, ◌<◌, ◌≤◌, List, [], ◌∷◌, ◌++◌, length, take, drop, set, get_or, arith}
+use Rattle.std.proofs.Common.{◌≡◌, ◌≢◌, refl, sym, ap, ◌∙◌, ℕ, Bool, true, false, suc, zero, ◌+◌, min, ◌<◌, ◌≤◌, List, [], ◌∷◌, ◌++◌, length, take, drop, set, get_or, arith}
+use Rattle.std.specs.Bool.{OnTrue, OnFalse}
 use Rattle.std.specs.List.{slice_range, SameBelow}
 use Rattle.std.proofs.Math.Seq.{get_or-append_seam}
-use Rattle.std.proofs.lemmas.List.{drop-set-lt, take-set-le, get_or-take, get_or-set_same}
+use Rattle.std.proofs.lemmas.List.{drop-set-lt, take-set-le, get_or-take, get_or-set_same, set-get_or}
 use Rattle.space_core.specs.Words.{write_from}
 use Rattle.layer_rules.specs.Rows.{Each, EachPair}
 use Rattle.owned_heap.specs.Ticket.{Ticket}
@@ -60,6 +61,15 @@ block-at (y ∷ l) (suc i) x lt at = block-at l i x (omega arith) at
 
 pub block-at-set : (l : List Ticket) (i : ℕ) (y : Ticket) → i < length l → block_at (set l i y) i ≡ y
 block-at-set l i y lt = get_or-set_same l i y (record { number = 0; block = record { place = 0; len = 0 } }) lt
+
+-- a block that was moved, and one that wasn't
+pub block-moved : (r : Bool) (l : List Ticket) (i : ℕ) (y : Ticket) → i < length l → OnTrue r (set l i y ≡ set l i (block_at (set l i y) i))
+block-moved true l i y lt = ap (set l i) (sym (block-at-set l i y lt))
+block-moved false l i y lt = tt
+
+pub block-stays : (r : Bool) (l : List Ticket) (i : ℕ) (x y : Ticket) → x ≡ get_or l i x → OnFalse r (y ≡ x) → OnFalse r (set l i y ≡ l)
+block-stays true l i x y at same = tt
+block-stays false l i x y at same = ap (set l i) (same ∙ at) ∙ set-get_or l i x
 
 -- ---- rows
 

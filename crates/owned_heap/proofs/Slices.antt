@@ -81,6 +81,14 @@ written-all bytes given e =
     let q : i ≡ 0 + i = omega arith in
     ap (λ k. get_or (write_from bytes 0 given) k 0) q ∙ written-in bytes 0 given i (omega arith) (omega (arith, size)))
 
+-- all bytes of a block, written over
+pub slice-replaced : (bytes : List ℕ) (b : Block) (given : List ℕ) → end_of b ≤ length bytes → length given ≡ b.len → slice_range (write_from bytes b.place given) b.place (end_of b) ≡ given
+slice-replaced bytes b given r e =
+    let q : b.place ≡ b.place + 0 = omega arith in
+    ap (λ at. slice_range (write_from bytes at given) b.place (end_of b)) q
+    ∙ (slice-written bytes b.place b.len 0 given (omega (arith, e))
+    ∙ written-all (slice_range bytes b.place (end_of b)) given (omega (arith, e, r, length-slice bytes b.place (end_of b))))
+
 -- a block that was moved has the bytes that both lengths have
 pub take-carried : (old new : List ℕ) (p q k n : ℕ) → p + k ≤ length old → q + n ≤ length new → ((i : ℕ) → i < min k n → get_or new (q + i) 0 ≡ get_or old (p + i) 0)
     → take (min k n) (slice_range new q (q + n)) ≡ take n (slice_range old p (p + k))

@@ -1,3 +1,4 @@
+pub mod Altered
 pub mod Ticket
 pub mod Events
 pub mod Owned

@@ -1,9 +1,9 @@
 -- Rows: what contracts see of a heap with a vector of its blocks.
-use Rattle.std.specs.Prelude.{ℕ, ◌≡◌, ◌≢◌, ◌<◌, List, [], map, length}
+use Rattle.std.specs.Prelude.{ℕ, ◌≡◌, ◌≢◌, ◌<◌, false, List, [], map, length}
 use Rattle.std.specs.List.{slice_index_or}
 use Rattle.layer_rules.specs.Rows.{Each, EachPair}
 use Rattle.owned_heap.specs.Ticket.{Ticket}
-use Rattle.owned_heap.specs.Events.{made}
+use Rattle.owned_heap.specs.Events.{made, is_live}
 use Rattle.owned_heap.specs.Owned.{Owned, IsLive, bytes_of}
 
 -- the bytes of each block, in order; the blocks themselves; how many there is room for; and the heap that they stand in
@@ -35,3 +35,7 @@ pub record IsRow {L : Type 0} (h : Owned L) (b : Ticket) : Type 0 where
 pub record AreRows {L : Type 0} (h : Owned L) (blocks : List Ticket) : Type 0 where
   pub each : Each (IsRow h) blocks
   pub apart : EachPair (λ (b c : Ticket). b.number ≢ c.number) blocks
+
+-- none of these blocks is live
+abbrev pub AreGone : {L : Type 0} → Owned L → List Ticket → Type 0
+AreGone h blocks = (index : ℕ) → index < length blocks → is_live h.events (block_at blocks index) ≡ false

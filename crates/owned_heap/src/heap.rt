@@ -1,10 +1,13 @@
 //! The heap itself.
 ghost use Rattle.std.specs.Prelude.{◌≡◌, ◌≢◌, ◌+◌, ◌≤◌, ◌<◌, ◌%◌, true, false, length, min, take, is_none, is_some, slice_set, slice_index, IfSome};
+ghost use Rattle.std.specs.Fn.{FnOnceReturnsAtMut};
 ghost use Rattle.space_core.specs.Words.{write_from};
+ghost use Rattle.layer_rules.specs.Blocks.{end_of};
+ghost use Rattle.owned_heap.specs.Altered.{IsAltered};
 
 use crate::block::{Event, OwnedBlock};
 use ghost_log::Log;
-use layer_core::{Fact, Layer, Offers, Refused};
+use layer_core::{Block, Fact, Layer, Offers, Refused};
 use space_core::Space;
 use std::marker::Model;
 
@@ -40,10 +43,10 @@ impl<L: Layer> Drop for OwnedHeap<L> {
 }
 
 impl<L: Layer> OwnedHeap<L> {
-    ghost use Rattle.std.specs.Prelude.{[], ◌∷◌, IfOk, MatchOption};
+    ghost use Rattle.std.specs.Prelude.{[], ◌∷◌, Ok, Err, IfOk, IfErr, MatchOption};
     ghost use Rattle.std.specs.Bool.{OnTrue, OnFalse};
     ghost use Rattle.layer_rules.specs.Layering.{IsFactOf};
-    ghost use Rattle.owned_heap.specs.Plans.{IsPlan, is_alignment};
+    ghost use Rattle.owned_heap.specs.Plans.{IsPlan, is_alignment, begun_in};
     ghost use Rattle.owned_heap.specs.Events.{made, is_live, IsApartFromLive};
     ghost use Rattle.owned_heap.specs.Owned.{IsLive, bytes_of, is_refused, is_refused_at, holds, extent_len, AllocatesIn, AlignedAllocatesIn, ExpandsIn, ReallocatesIn, DeallocatesIn, DeallocatesAllIn};
 
@@ -52,6 +55,8 @@ impl<L: Layer> OwnedHeap<L> {
         requires { IsPlan (L.model root) space }
         ensures empty { IfOk result (λ heap. heap.events ≡ []) }
         ensures rules { IfOk result (λ heap. (L.model heap.root).rules ≡ (L.model root).rules) }
+        ensures ok { IfOk result (λ heap. (L.model root).rules.set_up 0 space.cells ≡ Ok (begun_in L.model heap)) }
+        ensures err { IfErr result (λ refused. (L.model root).rules.set_up 0 space.cells ≡ Err refused.node) }
     {
         let mut space = space;
         let mut root = root;
@@ -286,6 +291,18 @@ impl<L: Layer> OwnedHeap<L> {
         put(&mut self.space, b.place() + at, bytes);
     }
 
+    /// Lets `change` write the bytes of a block, all or some, where they stand.
+    pub fn with_bytes_mut<F: FnOnce(&mut [u8])>(&mut self, b: &OwnedBlock, change: F)
+        requires live { IsLive self.old b.now }
+        requires callable { F.IsAlwaysCallable change }
+        ensures events { self.new.events ≡ self.old.events }
+        ensures changed { FnOnceReturnsAtMut F.FnOnce change (bytes_of self.old b.now) tt (bytes_of self.new b.now) }
+        ensures size { length (bytes_of self.new b.now) ≡ b.now.block.len }
+        ensures others { (c : _) → c.number ≢ b.now.number → bytes_of self.new c ≡ bytes_of self.old c }
+    {
+        alter(&mut self.space, b.block(), change);
+    }
+
     /// Takes all blocks back, or answers `false` where the root doesn't offer that.
     pub fn deallocate_all(&mut self) -> bool
         ensures offered { result ≡ (L.model self.old.root).rules.offers.all }
@@ -309,4 +326,13 @@ fn put(space: &mut Space, place: u64, bytes: &[u8])
 {
     let lent = space.lend_mut(place, bytes.len() as u64);
     lent.copy_from_slice(bytes);
+}
+
+// Lets `change` write the bytes of a block.
+fn alter<F: FnOnce(&mut [u8])>(space: &mut Space, b: Block, change: F)
+    requires inside { end_of b ≤ length space.old.bytes }
+    requires callable { F.IsAlwaysCallable change }
+    ensures { IsAltered F.FnOnce change space.old space.new b }
+{
+    change(space.lend_mut(b.place, b.len));
 }

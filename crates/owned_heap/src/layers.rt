@@ -1,5 +1,5 @@
 //! The layers of a heap that is not made yet.
-ghost use Rattle.std.specs.Prelude.{◌≡◌, ◌+◌, ◌≤◌, ◌<◌, true, false, [], IfOk};
+ghost use Rattle.std.specs.Prelude.{◌≡◌, ◌+◌, ◌≤◌, ◌<◌, true, false, [], Ok, Err, IfOk, IfErr};
 
 use crate::heap::OwnedHeap;
 use affix_layer::Affix;
@@ -94,7 +94,7 @@ impl<L: Layer> Layers<L> {
     ghost use Rattle.quantizer.specs.QuantizerModel.{quantizer_of};
     ghost use Rattle.affix_rules.specs.AffixRules.{affix_rules, affix_bound, alignment_behind};
     ghost use Rattle.affix_layer.specs.AffixModel.{affix_of};
-    ghost use Rattle.owned_heap.specs.Plans.{is_alignment, IsOneMore, HasRoom};
+    ghost use Rattle.owned_heap.specs.Plans.{is_alignment, IsOneMore, HasRoom, opening_in, begun_in};
 
     /// A region on top: one chunk of at least `size` bytes, from which blocks are handed out from front to back, at multiples
     /// of `align`.
@@ -211,6 +211,8 @@ impl<L: Layer> Layers<L> {
     pub fn heap(self) -> Result<OwnedHeap<L>, Refused>
         ensures empty { IfOk result (λ heap. heap.events ≡ []) }
         ensures rules { IfOk result (λ heap. (L.model heap.root).rules ≡ (L.model self.root).rules) }
+        ensures ok { IfOk result (λ heap. opening_in L.model self ≡ Ok (begun_in L.model heap)) }
+        ensures err { IfErr result (λ refused. opening_in L.model self ≡ Err refused.node) }
     {
         OwnedHeap::open(self.space, self.root)
     }

@@ -1,8 +1,9 @@
 //! A heap with a vector of its blocks, for code that keeps many of them.
 ghost use Rattle.std.specs.Prelude.{◌≡◌, ◌+◌, ◌-◌, ◌≤◌, ◌<◌, ◌++◌, ◌∷◌, true, false, [], not, length, min, take, drop, slice_get, slice_set, slice_range, OnOk, OnErr};
+ghost use Rattle.std.specs.Fn.{FnOnceReturnsAtMut};
 ghost use Rattle.space_core.specs.Words.{write_from};
 
-use crate::block::OwnedBlock;
+use crate::block::{Event, OwnedBlock};
 use crate::heap::OwnedHeap;
 use layer_core::Layer;
 use std::alloc::{AllocError, Global};
@@ -33,7 +34,7 @@ impl<L: Layer> BlockVec<L> {
     ghost use Rattle.std.specs.List.{swap_remove, SameBelow};
     ghost use Rattle.std.specs.Bool.{OnTrue, OnFalse};
     ghost use Rattle.owned_heap.specs.Owned.{is_refused, AllocatesIn, ReallocatesIn, DeallocatesIn};
-    ghost use Rattle.owned_heap.specs.Rows.{row_of, block_at};
+    ghost use Rattle.owned_heap.specs.Rows.{row_of, block_at, AreGone};
 
     /// No block of this heap yet.
     pub fn new(alloc: Global, heap: OwnedHeap<L>) -> BlockVec<L>
@@ -90,7 +91,11 @@ impl<L: Layer> BlockVec<L> {
         ensures row { OnTrue result (self.new.rows ≡ self.old.rows ++ row_of self.new.rows (length self.old.rows) ∷ []) }
         ensures size { OnTrue result (length (row_of self.new.rows (length self.old.rows)) ≡ n) }
         ensures len { OnTrue result (length self.new.rows ≡ length self.old.rows + 1) }
+        ensures blocks { OnTrue result (self.new.blocks ≡ self.old.blocks ++ block_at self.new.blocks (length self.old.rows) ∷ []) }
+        ensures events { OnTrue result (self.new.heap.events ≡ Event.Made (block_at self.new.blocks (length self.old.rows)) ∷ self.old.heap.events) }
         ensures same { OnFalse result (self.new.rows ≡ self.old.rows) }
+        ensures same_blocks { OnFalse result (self.new.blocks ≡ self.old.blocks) }
+        ensures same_events { OnFalse result (self.new.heap.events ≡ self.old.heap.events) }
         ensures capacity { self.old.capacity ≤ self.new.capacity }
         ensures rule { OnTrue result (AllocatesIn L.model self.old.heap self.new.heap n (slice_get self.new.blocks (length self.old.rows))) }
     {
@@ -152,6 +157,21 @@ impl<L: Layer> BlockVec<L> {
         self.heap.write_at(block, at, bytes);
     }
 
+    /// Lets `change` write the bytes of a block, all or some, where they stand.
+    pub fn with_bytes_mut<F: FnOnce(&mut [u8])>(&mut self, index: usize, change: F)
+        requires inside { index < length self.old.rows }
+        requires callable { F.IsAlwaysCallable change }
+        ensures rows { self.new.rows ≡ slice_set self.old.rows index (row_of self.new.rows index) }
+        ensures changed { FnOnceReturnsAtMut F.FnOnce change (row_of self.old.rows index) tt (row_of self.new.rows index) }
+        ensures size { length (row_of self.new.rows index) ≡ length (row_of self.old.rows index) }
+        ensures len { length self.new.rows ≡ length self.old.rows }
+        ensures blocks { self.new.blocks ≡ self.old.blocks }
+        ensures capacity { self.new.capacity ≡ self.old.capacity }
+    {
+        let block = &self.blocks[index];
+        self.heap.with_bytes_mut(block, change);
+    }
+
     /// Gives a block the length `n`, at least 1, where it stands or elsewhere. Of its bytes those are kept that both lengths
     /// have. Where it answers `false` all is as before.
     pub fn reallocate(&mut self, index: usize, n: u64) -> bool
@@ -161,7 +181,9 @@ impl<L: Layer> BlockVec<L> {
         ensures size { OnTrue result (length (row_of self.new.rows index) ≡ n) }
         ensures kept { OnTrue result (take (min (length (row_of self.old.rows index)) n) (row_of self.new.rows index) ≡ take n (row_of self.old.rows index)) }
         ensures by_index { OnTrue result (SameBelow (row_of self.old.rows index) (row_of self.new.rows index) (min (length (row_of self.old.rows index)) n)) }
+        ensures blocks { OnTrue result (self.new.blocks ≡ slice_set self.old.blocks index (block_at self.new.blocks index)) }
         ensures same { OnFalse result (self.new.rows ≡ self.old.rows) }
+        ensures same_blocks { OnFalse result (self.new.blocks ≡ self.old.blocks) }
         ensures len { length self.new.rows ≡ length self.old.rows }
         ensures capacity { self.new.capacity ≡ self.old.capacity }
         ensures rule { ReallocatesIn L.model self.old.heap self.new.heap (block_at self.old.blocks index) (block_at self.new.blocks index) n result }
@@ -175,6 +197,8 @@ impl<L: Layer> BlockVec<L> {
         requires { 0 < length self.old.rows }
         ensures rows { self.new.rows ≡ take (length self.old.rows - 1) self.old.rows }
         ensures len { length self.new.rows + 1 ≡ length self.old.rows }
+        ensures blocks { self.new.blocks ≡ take (length self.old.rows - 1) self.old.blocks }
+        ensures events { self.new.heap.events ≡ Event.Gone (block_at self.old.blocks (length self.old.rows - 1)) ∷ self.old.heap.events }
         ensures capacity { self.new.capacity ≡ self.old.capacity }
         ensures rule { DeallocatesIn L.model self.old.heap self.new.heap (block_at self.old.blocks (length self.old.rows - 1)) result }
     {
@@ -187,6 +211,8 @@ impl<L: Layer> BlockVec<L> {
         requires { index < length self.old.rows }
         ensures rows { self.new.rows ≡ swap_remove self.old.rows index [] }
         ensures len { length self.new.rows + 1 ≡ length self.old.rows }
+        ensures blocks { self.new.blocks ≡ swap_remove self.old.blocks index (block_at self.old.blocks index) }
+        ensures events { self.new.heap.events ≡ Event.Gone (block_at self.old.blocks index) ∷ self.old.heap.events }
         ensures capacity { self.new.capacity ≡ self.old.capacity }
         ensures rule { DeallocatesIn L.model self.old.heap self.new.heap (block_at self.old.blocks index) result }
     {
@@ -197,10 +223,13 @@ impl<L: Layer> BlockVec<L> {
     /// Gives all blocks back: at once where the root offers that, and else the last one first.
     pub fn clear(&mut self)
         ensures rows { self.new.rows ≡ [] }
+        ensures blocks { self.new.blocks ≡ [] }
+        ensures gone { AreGone self.new.heap self.old.blocks }
         ensures capacity { self.new.capacity ≡ self.old.capacity }
     {
         if self.heap.deallocate_all() {
             self.blocks.clear();
+            return;
         }
         while !self.is_empty() {
             self.pop();

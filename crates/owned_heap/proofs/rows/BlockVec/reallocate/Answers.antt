@@ -1,5 +1,5 @@
 use Rattle.std.proofs.Common.{rules}
-use Rattle.owned_heap.proofs.RowParts.{block-at, block-at-set}
+use Rattle.owned_heap.proofs.RowParts.{block-at, block-at-set, block-moved, block-stays}
 use Rattle.owned_heap.proofs.RowCalls.{inside-rows, reallocated, set-length}
 use Rattle.owned_heap.proofs.rows.BlockVec.reallocate.Goals as goal
 
@@ -17,4 +17,4 @@ returns g c =
     let old = block-at c.self.inside.blocks.items c.args.index c.index_mut-block.result.now inside c.index_mut-block.ensures.value in
     let new = block-at-set c.self.inside.blocks.items c.args.index c.reallocate.new.b inside in
     rw (← c.self.view_is)
-    (record { row = m.row; size = m.size; kept = m.kept; by_index = m.by_index; same = m.same; len = set-length c.self.inside.heap c.reallocate.new.self _ _ _; capacity = search rules; rule = rw (old, new) e.rule })
+    (record { row = m.row; size = m.size; kept = m.kept; by_index = m.by_index; blocks = block-moved c.reallocate.result _ c.args.index _ inside; same = m.same; same_blocks = block-stays c.reallocate.result _ c.args.index _ _ c.index_mut-block.ensures.value e.same; len = set-length c.self.inside.heap c.reallocate.new.self _ _ _; capacity = search rules; rule = rw (old, new) e.rule })
