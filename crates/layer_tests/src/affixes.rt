@@ -2,13 +2,13 @@
 #![tactic(auto, unfolding(affix_rules::specs::AffixRules::affix_rules, layer_rules::specs::Handing::handing_rules))]
 
 ghost use Rattle.std.specs.Prelude.{◌≡◌, ◌≤◌, ◌<◌, ◌+◌, true, length};
-ghost use Rattle.size_round.specs.Sizes.{limit, is_multiple};
+ghost use Rattle.size_round.specs.Sizes.{is_multiple};
 ghost use Rattle.layer_tests.specs.Between.{IsWaiting, IsReady, IsHeld};
 ghost use Rattle.layer_laws.specs.Lawful.{most_layers, most_nodes};
 ghost use Rattle.affix_layer.specs.AffixModel.{affix_of};
 
 use crate::calls::{
-    asks, close, lengthen, open, resize, room_of, serve, space_and_leaf, take_all_back,
+    asks, close, lengthen, open, refusing, resize, room_of, serve, space_and_leaf, take_all_back,
 };
 use crate::regions::region_over;
 use affix_layer::{Affix, laws};
@@ -154,24 +154,6 @@ fn asked_along<L: Layer>(rt: &impl Abort, layer: &L, b: Block, held: bool) {
     assert!(rt; matches!(layer.owns_at(&path, 1, b), Asked::NoSuchLayer));
 }
 
-// Wants the layer to be refused for the need, by the node.
-fn refuses_to_open<L: Layer>(
-    rt: &impl Abort,
-    layer: &mut L,
-    space: &mut Space,
-    need: u64,
-    node: u32,
-)
-    requires waiting { IsWaiting (L.model layer.old) space.old }
-    requires need { need ≤ limit }
-    ensures { IsWaiting (L.model layer.new) space.new }
-{
-    match open(layer, space, need) {
-        Ok(()) => panic!(rt; "{need} bytes"),
-        Err(refused) => assert_eq!(rt; refused.node, node),
-    }
-}
-
 #[test]
 #[tactic(auto, unfolding(leaf_rules::specs::MemRules::mem_rules, affix_rules::specs::AffixRules::affix_rules, layer_rules::specs::Handing::handing_rules))]
 fn affixes_over_a_leaf(rt: HostRuntime) -> Result<(), Fail> {
@@ -204,8 +186,8 @@ fn an_affix_over_a_region(rt: HostRuntime) -> Result<(), Fail> {
     let (mut space, leaf) = space_and_leaf(rt.alloc(), 16)?;
     let region = region_over(&space, 64, leaf);
     let mut layer = affix_over(&space, 8, 8, region);
-    refuses_to_open(&rt, &mut layer, &mut space, LIMIT - 15, 0);
-    refuses_to_open(&rt, &mut layer, &mut space, 1009, 1);
+    assert_eq!(rt; refusing(&mut layer, &mut space, LIMIT - 15), Some(0));
+    assert_eq!(rt; refusing(&mut layer, &mut space, 1009), Some(1));
     assert!(rt; open(&mut layer, &mut space, 1008).is_ok());
     grows(&rt, &mut layer, &mut space);
     let block = Block { place: 8, len: 30 };

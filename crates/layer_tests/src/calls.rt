@@ -11,6 +11,7 @@ ghost use Rattle.layer_rules.specs.declared.Block.{Block};
 use layer_core::{Block, Layer, Mem, Refused};
 use space_core::{NoMemory, Space};
 use std::alloc::Global;
+use std::process::Abort;
 
 /// A Space of so many cells, and its only leaf, closed.
 ///
@@ -42,6 +43,21 @@ pub fn open<L: Layer>(layer: &mut L, space: &mut Space, need: u64) -> Result<(),
     ensures opens { SetsUp (L.model layer.old) (L.model layer.new) space.old space.new need result }
 {
     layer.set_up(space, need)
+}
+
+/// The node that can't be opened for the need, or `None` where the layer opens. It is closed then.
+pub fn refusing<L: Layer>(layer: &mut L, space: &mut Space, need: u64) -> Option<u32>
+    requires waiting { IsWaiting (L.model layer.old) space.old }
+    requires need { need ≤ limit }
+    ensures { IsWaiting (L.model layer.new) space.new }
+{
+    match open(layer, space, need) {
+        Ok(()) => {
+            close(layer, space);
+            None
+        }
+        Err(refused) => Some(refused.node),
+    }
 }
 
 /// A block of `n` bytes of an open layer, or `None`. Blocks that were served before stay so.
@@ -115,6 +131,15 @@ pub fn take_all_back<L: Layer>(layer: &mut L, space: &mut Space)
     ensures takes { DeallocatesAll (L.model layer.old) (L.model layer.new) space.old space.new }
 {
     layer.deallocate_all(space)
+}
+
+/// Takes all blocks back that an open layer served, which must offer that.
+pub fn clear<L: Layer>(rt: &impl Abort, layer: &mut L, space: &mut Space)
+    requires { IsReady (L.model layer.old) space.old }
+    ensures { IsReady (L.model layer.new) space.new }
+{
+    assert!(rt; layer.offers().all);
+    take_all_back(layer, space)
 }
 
 /// Whether an open layer owns the block, which may be any.

@@ -6,13 +6,10 @@ ghost use Rattle.layer_tests.specs.Between.{IsWaiting, IsReady, IsHeld};
 ghost use Rattle.layer_laws.specs.Lawful.{most_layers, most_nodes};
 ghost use Rattle.stats_collector.specs.CollectorModel.{collector_of};
 
-use crate::calls::{
-    asks, close, lengthen, open, resize, serve, serve_aligned, space_and_leaf, take_all_back,
-    take_back,
-};
+use crate::calls::{asks, close, lengthen, open, refusing, resize, serve, space_and_leaf};
 use crate::regions::region_over;
 use layer_core::{Asked, Block, Fact, Layer, Path};
-use size_round::{LIMIT, PowerOfTwo, Rounding};
+use size_round::LIMIT;
 use space_core::Space;
 use stats_collector::{StatsCollector, in_order};
 use std::process::Abort;
@@ -137,39 +134,6 @@ fn reallocations<P: Layer>(
     );
 }
 
-// Two blocks of a region, of which the first can't be used again: it counts as given back.
-fn given_back<P: Layer>(rt: &impl Abort, collector: &mut StatsCollector<P>, space: &mut Space)
-    requires { IsReady (collector_of P.model collector.old) space.old }
-    ensures { IsReady (collector_of P.model collector.new) space.new }
-{
-    let first = serve(collector, space, 10).expect(rt, "a block");
-    assert!(rt; serve(collector, space, 20).is_some());
-    assert_eq!(rt;
-        numbers(rt, collector, space),
-        [0, 2, 2, 0, 0, 0, 0, 0, 0, 0, 30, 30, 0, 18, 30]
-    );
-    assert!(rt; !take_back(collector, space, first));
-    assert_eq!(rt;
-        numbers(rt, collector, space),
-        [0, 2, 2, 0, 0, 0, 0, 0, 1, 0, 20, 30, 0, 12, 30]
-    );
-    assert!(rt; collector.offers().aligned && collector.offers().all);
-    let align = PowerOfTwo.round(64);
-    assert_eq!(rt; align, 64);
-    assert!(rt; serve_aligned(collector, space, 30, align).is_some());
-    assert!(rt; serve_aligned(collector, space, 30, align).is_none());
-    assert!(rt; serve_aligned(collector, space, 0, align).is_none());
-    assert_eq!(rt;
-        numbers(rt, collector, space),
-        [0, 4, 3, 0, 0, 0, 0, 0, 1, 0, 50, 60, 0, 14, 50]
-    );
-    take_all_back(collector, space);
-    assert_eq!(rt;
-        numbers(rt, collector, space),
-        [0, 4, 3, 0, 0, 0, 0, 0, 1, 1, 0, 60, 0, 0, 50]
-    );
-}
-
 // A collector over a region of 128 bytes is asked for blocks, also such as none can have. Paths count nothing.
 fn asked<P: Layer>(rt: &impl Abort, collector: &mut StatsCollector<P>, space: &mut Space)
     requires { IsReady (collector_of P.model collector.old) space.old }
@@ -225,48 +189,8 @@ fn a_collector_over_a_region(rt: HostRuntime) -> Result<(), Fail> {
     let (mut space, leaf) = space_and_leaf(rt.alloc(), 4)?;
     let region = region_over(&space, 32, leaf);
     let mut collector = collector_over(&space, region);
-    assert!(rt; matches!(open(&mut collector, &mut space, 257), Err(refused) if refused.node == 1));
-    assert!(rt; open(&mut collector, &mut space, 128).is_ok());
-    given_back(&rt, &mut collector, &mut space);
-    close(&mut collector, &mut space);
+    assert_eq!(rt; refusing(&mut collector, &mut space, 257), Some(1));
     assert!(rt; open(&mut collector, &mut space, 128).is_ok());
     asked(&rt, &mut collector, &mut space);
-    Ok(())
-}
-
-// A block that has all of its parent can't get another byte.
-#[test]
-#[tactic(auto, unfolding(leaf_rules::specs::MemRules::mem_rules, region_rules::specs::RegionRules::region_rules, stats_rules::specs::StatsRules::stats_rules))]
-fn a_block_that_has_all(rt: HostRuntime) -> Result<(), Fail> {
-    let (mut space, leaf) = space_and_leaf(rt.alloc(), 64)?;
-    let region = region_over(&space, 32, leaf);
-    let mut collector = collector_over(&space, region);
-    assert!(rt; open(&mut collector, &mut space, 0).is_ok());
-    let mut block = serve(&mut collector, &mut space, 32).expect(&rt, "all of it");
-    assert!(rt; !resize(&mut collector, &mut space, &mut block, 33));
-    assert_eq!(rt;
-        numbers(&rt, &collector, &space),
-        [0, 1, 1, 0, 0, 1, 0, 0, 0, 0, 32, 32, 0, 0, 32]
-    );
-    Ok(())
-}
-
-// The chunk of a region above is a request like any other.
-#[test]
-#[tactic(auto, unfolding(leaf_rules::specs::MemRules::mem_rules, region_rules::specs::RegionRules::region_rules, stats_rules::specs::StatsRules::stats_rules, layer_rules::specs::Handing::handing_rules))]
-fn a_collector_below_a_region(rt: HostRuntime) -> Result<(), Fail> {
-    let (mut space, leaf) = space_and_leaf(rt.alloc(), 64)?;
-    let collector = collector_over(&space, leaf);
-    let mut region = region_over(&space, 32, collector);
-    assert!(rt; open(&mut region, &mut space, 1024).is_ok());
-    assert!(rt; serve(&mut region, &mut space, 100).is_some());
-    assert_eq!(rt; region.nodes(), 3);
-    match region.fact(&space, 1) {
-        Fact::Counters { stats } => assert_eq!(rt;
-            in_order(stats),
-            [0, 1, 1, 0, 0, 0, 0, 0, 0, 0, 1024, 1024, 0, 0, 1024]
-        ),
-        _ => panic!(&rt; "no counters"),
-    }
     Ok(())
 }

@@ -5,7 +5,7 @@ ghost use Rattle.layer_tests.specs.Between.{IsWaiting, IsReady, IsHeld};
 ghost use Rattle.quota.specs.QuotaModel.{quota_of};
 ghost use Rattle.quota.specs.QuotaProper.{IsProper};
 
-use crate::calls::{close, lengthen, open, serve, space_and_leaf, take_all_back, take_back};
+use crate::calls::{clear, close, lengthen, open, serve, space_and_leaf, take_back};
 use layer_core::{Asked, Block, Fact, Layer, NullLayer, Path};
 use quota::Quota;
 use space_core::Space;
@@ -66,15 +66,6 @@ fn grow<L: Layer>(
 {
     assert!(rt; layer.offers().expand);
     lengthen(layer, space, b, delta)
-}
-
-// Takes all blocks back.
-fn clear<L: Layer>(rt: &impl Abort, layer: &mut L, space: &mut Space)
-    requires { IsReady (L.model layer.old) space.old }
-    ensures { IsReady (L.model layer.new) space.new }
-{
-    assert!(rt; layer.offers().all);
-    take_all_back(layer, space)
 }
 
 // What a layer of 200 bytes tells of itself when its block of 100 bytes has all of them, and when all came back.

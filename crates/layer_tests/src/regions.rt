@@ -3,16 +3,14 @@
 
 ghost use Rattle.std.specs.Prelude.{◌≡◌, ◌≤◌, ◌<◌, ◌+◌};
 ghost use Rattle.layer_tests.specs.Between.{IsWaiting, IsReady};
-ghost use Rattle.size_round.specs.Sizes.{limit, size_bound};
+ghost use Rattle.size_round.specs.Sizes.{size_bound};
 ghost use Rattle.layer_laws.specs.Lawful.{most_layers, most_nodes};
 ghost use Rattle.region_block.specs.RegionModel.{region_of};
 
-use crate::calls::{
-    close, lengthen, open, room_of, serve, space_and_leaf, take_all_back, take_back,
-};
-use layer_core::{Asked, Block, Fact, Layer, Owning, Path};
+use crate::calls::{close, open, refusing, room_of, serve, space_and_leaf, take_back};
+use layer_core::{Asked, Block, Fact, Layer, Path};
 use region_block::Region;
-use size_round::{LIMIT, PowerOfTwo, Rounding};
+use size_round::LIMIT;
 use space_core::Space;
 use std::process::Abort;
 use std::test::Fail;
@@ -86,21 +84,6 @@ fn refuses_the_first<L: Layer>(rt: &impl Abort, layer: &mut L, space: &mut Space
     close(layer, space);
 }
 
-// The node that can't be opened for the need, or `None` where the layer opens.
-fn refusing<L: Layer>(layer: &mut L, space: &mut Space, need: u64) -> Option<u32>
-    requires waiting { IsWaiting (L.model layer.old) space.old }
-    requires need { need ≤ limit }
-    ensures { IsWaiting (L.model layer.new) space.new }
-{
-    match open(layer, space, need) {
-        Ok(()) => {
-            close(layer, space);
-            None
-        }
-        Err(refused) => Some(refused.node),
-    }
-}
-
 // The numbers of an open node that is a region.
 fn numbers<L: Layer>(rt: &impl Abort, layer: &L, node: u32) -> [u64; 4] {
     assert!(rt; node < layer.nodes());
@@ -111,70 +94,6 @@ fn numbers<L: Layer>(rt: &impl Abort, layer: &L, node: u32) -> [u64; 4] {
         layer.state_number(node, 2),
         layer.state_number(node, 3),
     ]
-}
-
-// The place of a block of `n` bytes at a multiple of `a`, where the position is 32 of 208, and the position then.
-fn aligned_at<P: Layer>(
-    rt: &impl Abort,
-    region: &mut Region<P>,
-    space: &mut Space,
-    n: u64,
-    a: u64,
-) -> (Option<u64>, u64)
-    requires { IsWaiting (region_of P.model region.old) space.old }
-{
-    assert!(rt; a >= 1);
-    assert!(rt; a <= 4096);
-    assert!(rt; PowerOfTwo.round(a) == a);
-    assert!(rt; open(region, space, 200).is_ok());
-    assert!(rt; serve(region, space, 20).is_some());
-    let place = match region.aligned_allocate(space, n, a) {
-        Some(block) => Some(block.place),
-        None => None,
-    };
-    (place, numbers(rt, region, 0)[3])
-}
-
-// What a block at 16, the last one of a region of 208 bytes, is after it was asked to have `n` bytes, and the position then.
-fn resized_to<P: Layer>(
-    rt: &impl Abort,
-    region: &mut Region<P>,
-    space: &mut Space,
-    n: u64,
-) -> (bool, [u64; 3])
-    requires { IsWaiting (region_of P.model region.old) space.old }
-{
-    assert!(rt; open(region, space, 200).is_ok());
-    assert!(rt; serve(region, space, 16).is_some());
-    let mut block = serve(region, space, 16).expect(rt, "a block");
-    let done = region.reallocate(space, &mut block, n);
-    (done, [block.place, block.len, numbers(rt, region, 0)[3]])
-}
-
-// A block that isn't the last one grows by nothing alone, and the last one grows up to the end of the chunk.
-fn lengthens<P: Layer>(rt: &impl Abort, region: &mut Region<P>, space: &mut Space)
-    requires { IsWaiting (region_of P.model region.old) space.old }
-    ensures { IsWaiting (region_of P.model region.new) space.new }
-{
-    assert!(rt; open(region, space, 200).is_ok());
-    let mut first = serve(region, space, 20).expect(rt, "a block");
-    assert!(rt; serve(region, space, 1).is_some());
-    assert!(rt; lengthen(region, space, &mut first, 0));
-    assert!(rt; !lengthen(region, space, &mut first, 1));
-    assert_eq!(rt; (first.len, numbers(rt, region, 0)[3]), (20, 48));
-    take_all_back(region, space);
-    assert_eq!(rt; numbers(rt, region, 0), [1, 0, 208, 0]);
-    let mut last = serve(region, space, 20).expect(rt, "a block");
-    assert!(rt; lengthen(region, space, &mut last, 13));
-    assert_eq!(rt; (last.len, numbers(rt, region, 0)[3]), (33, 48));
-    assert!(rt; !lengthen(region, space, &mut last, 176));
-    assert!(rt; !lengthen(region, space, &mut last, LIMIT));
-    assert!(rt; lengthen(region, space, &mut last, 175));
-    assert_eq!(rt;
-        (last.place, last.len, numbers(rt, region, 0)[3]),
-        (0, 208, 208)
-    );
-    close(region, space);
 }
 
 // Which blocks a region of 208 bytes owns, and what stands at the ends of paths in it.
@@ -230,20 +149,7 @@ fn a_region_over_a_leaf(rt: HostRuntime) -> Result<(), Fail> {
         ([0, 112, 144, 144], [64, 0, 64, 48])
     );
     refuses_the_first(&rt, &mut region, &mut space);
-    lengthens(&rt, &mut region, &mut space);
     owned(&rt, &mut region, &mut space);
-    let (mut space, leaf) = space_and_leaf(rt.alloc(), 16)?;
-    let mut region = region_over(&space, 64, leaf);
-    assert_eq!(rt;
-        aligned_at(&rt, &mut region, &mut space, 80, 128),
-        (Some(128), 208)
-    );
-    let (mut space, leaf) = space_and_leaf(rt.alloc(), 16)?;
-    let mut region = region_over(&space, 64, leaf);
-    assert_eq!(rt;
-        resized_to(&rt, &mut region, &mut space, 8),
-        (true, [32, 8, 48])
-    );
     Ok(())
 }
 
@@ -258,7 +164,6 @@ fn a_region_over_a_region(rt: HostRuntime) -> Result<(), Fail> {
         ([0, 112, 144, 144], [64, 0, 64, 48])
     );
     refuses_the_first(&rt, &mut regions, &mut space);
-    lengthens(&rt, &mut regions, &mut space);
     owned(&rt, &mut regions, &mut space);
     Ok(())
 }
@@ -276,50 +181,5 @@ fn no_room_for_a_chunk(rt: HostRuntime) -> Result<(), Fail> {
     assert_eq!(rt; refusing(&mut regions, &mut space, 257), Some(1));
     assert_eq!(rt; refusing(&mut regions, &mut space, LIMIT), Some(1));
     assert_eq!(rt; refusing(&mut regions, &mut space, 256), None);
-    Ok(())
-}
-
-#[test]
-#[tactic(auto, unfolding(leaf_rules::specs::MemRules::mem_rules, region_rules::specs::RegionRules::region_rules))]
-fn serves_at_multiples(rt: HostRuntime) -> Result<(), Fail> {
-    for (n, a, place, position) in [
-        (1, 1, Some(32), 48),
-        (1, 64, Some(64), 80),
-        (80, 128, Some(128), 208),
-        (81, 128, None, 32),
-        (1, 256, None, 32),
-        (0, 64, None, 32),
-        (LIMIT + 1, 64, None, 32),
-    ] {
-        let (mut space, leaf) = space_and_leaf(rt.alloc(), 16)?;
-        let mut regions = region_over(&space, 64, region_over(&space, 64, leaf));
-        assert_eq!(rt;
-            aligned_at(&rt, &mut regions, &mut space, n, a),
-            (place, position),
-            "{n} at {a}"
-        );
-    }
-    Ok(())
-}
-
-#[test]
-#[tactic(auto, unfolding(leaf_rules::specs::MemRules::mem_rules, region_rules::specs::RegionRules::region_rules))]
-fn moves_what_cannot_grow(rt: HostRuntime) -> Result<(), Fail> {
-    for (n, done, left) in [
-        (16, true, [16, 16, 32]),
-        (0, true, [0, 0, 16]),
-        (192, true, [16, 192, 208]),
-        (193, false, [16, 16, 32]),
-        (8, true, [32, 8, 48]),
-        (LIMIT + 1, false, [16, 16, 32]),
-    ] {
-        let (mut space, leaf) = space_and_leaf(rt.alloc(), 16)?;
-        let mut regions = region_over(&space, 64, region_over(&space, 64, leaf));
-        assert_eq!(rt;
-            resized_to(&rt, &mut regions, &mut space, n),
-            (done, left),
-            "{n} bytes"
-        );
-    }
     Ok(())
 }

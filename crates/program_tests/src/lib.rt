@@ -4,6 +4,8 @@
 #[cfg(test)]
 mod expressions;
 #[cfg(test)]
+mod layers;
+#[cfg(test)]
 mod lines;
 #[cfg(test)]
 mod runs;

@@ -12,13 +12,13 @@ use std::io::{self, Read, Write};
 use std::process::Abort;
 use std::test::Fail;
 
-// The words, the trace, and what it is told.
+/// The words, the trace, and what it is told.
 #[derive(Clone, Copy, Drop)]
-struct Row {
-    words: &'static [&'static str],
-    trace: &'static str,
-    status: Status,
-    told: &'static str,
+pub struct Row {
+    pub words: &'static [&'static str],
+    pub trace: &'static str,
+    pub status: Status,
+    pub told: &'static str,
 }
 
 const TRACES: [Row; 40] = [
@@ -363,7 +363,7 @@ const FAILINGS: [Failing; 7] = [
 ];
 
 // Expressions without a fault, and what stands in them.
-const EXPRESSIONS: [(&str, &str); 9] = [
+const EXPRESSIONS: [(&str, &str); 10] = [
     (
         "region(1024, 16, mem)",
         "region(1024,16,mem)\nnodes 2\nalign 16\noffers owns expand aligned all\n",
@@ -392,6 +392,10 @@ const EXPRESSIONS: [(&str, &str); 9] = [
     (
         "affix(0,8,quantize(16,null))",
         "affix(0,8,quantize(16,null))\nnodes 3\nalign 65536\noffers owns expand all\n",
+    ),
+    (
+        "quantize(pow2,mem)",
+        "quantize(pow2,mem)\nnodes 2\nalign 64\noffers expand aligned all\n",
     ),
     (
         "freelist(8, 64, mem)",
@@ -564,8 +568,8 @@ fn ended<S: Source, K: Sink>(
     Ok(run(alloc, &words, source, sink, &mut space))
 }
 
-// Runs the words over a trace, and wants this status and text.
-fn tells(
+/// Runs the words over a trace, and wants this status and text.
+pub fn tells(
     rt: &(impl AllocGlobal + Abort),
     words: &[&str],
     trace: &str,
