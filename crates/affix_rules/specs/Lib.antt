@@ -1,3 +1,2 @@
-pub mod AffixLawful
 pub mod AffixMeanings
 pub mod AffixRules

@@ -1,0 +1,5 @@
+pub mod BitmapFraming
+pub mod BitmapLawful
+pub mod BitmapParts
+pub mod BitmapPlaces
+pub mod BitmapRegular

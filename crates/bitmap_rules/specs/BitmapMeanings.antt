@@ -7,12 +7,13 @@ use Rattle.space_core.specs.Words.{IsWordAt}
 use Rattle.layer_rules.specs.declared.Block.{Block}
 use Rattle.layer_rules.specs.Blocks.{block, has_place, lies_in}
 use Rattle.layer_rules.specs.Fields.{Fields, child_fields}
-use Rattle.layer_rules.specs.Rules.{Rules, IsSettled}
+use Rattle.layer_rules.specs.Rules.{Rules, IsSettled, HasSomeTags}
 use Rattle.layer_rules.specs.State.{State, base_of, bitmap_own, child, chunk_of, is_open, one_child, open_with, units_of}
 use Rattle.layer_rules.specs.Units.{first_unit, unit_count}
 use Rattle.layer_laws.specs.ChunkLaws.{HasChunk}
-use Rattle.layer_laws.specs.Lawful.{IsRegular}
+use Rattle.layer_laws.specs.Lawful.{IsRegular, IsLawful}
 use Rattle.bitmap_rules.specs.BitmapRules.{bitmap_chunk, bitmap_front, bits_number, bitmap_place_at, bitmap_rules, free_place, units_block, units_free}
+use Rattle.std.proofs.Common.{ℕ}
 
 -- what a bitmap asks of its numbers and of its parent
 pub record IsBitmapSize (unit count : ℕ) (e : Rules) : Type 0 where
@@ -26,6 +27,10 @@ pub record IsBitmapSize (unit count : ℕ) (e : Rules) : Type 0 where
 -- over a regular parent it is regular
 abbrev pub BitmapIsRegular : Type 0
 BitmapIsRegular = (unit count : ℕ) (e : Rules) → IsBitmapSize unit count e → IsRegular e → IsRegular (bitmap_rules unit count e)
+
+-- over a parent that is regular and lawful, whose leaves have tags
+abbrev pub BitmapIsLawful : Type 0
+BitmapIsLawful = (unit count : ℕ) (e : Rules) → IsBitmapSize unit count e → HasSomeTags e → IsRegular e → IsLawful e → IsLawful (bitmap_rules unit count e)
 
 -- ---- between calls
 

@@ -1,27 +1,20 @@
 -- A bitmap: units of one size in one chunk of its parent, behind words with a bit for each; a block takes all units that it touches.
-use Rattle.layer_rules.specs.After.{Change, Serve, after, opened, placed, refuse, reply}
-use Rattle.layer_rules.specs.Allocating.{asked_for, over_limit_or}
+use Rattle.layer_laws.specs.Carving.{Carving, alone, carving_rules}
+use Rattle.layer_rules.specs.After.{Change, Serve, after, placed, refuse}
 use Rattle.layer_rules.specs.Blocks.{block, end_of, has_place, lies_in, with_len}
-use Rattle.layer_rules.specs.Chunks.{at_chunk, has_chunk}
-use Rattle.layer_rules.specs.Expanding.{asked_to_expand}
-use Rattle.layer_rules.specs.Facts.{if_open}
-use Rattle.layer_rules.specs.Fields.{child_fields, kept_chunk, kept_of, node_numbers}
-use Rattle.layer_rules.specs.Offering.{all_offers, if_served}
-use Rattle.layer_rules.specs.Owning.{is_plausible, is_some_block, may_hold}
-use Rattle.layer_rules.specs.Reallocating.{asked_to_reallocate, general_reallocate}
+use Rattle.layer_rules.specs.Fields.{kept_chunk}
+use Rattle.layer_rules.specs.Offering.{all_offers}
 use Rattle.layer_rules.specs.Rules.{Rules}
-use Rattle.layer_rules.specs.Setting.{if_set_up, need_of, open_chunk}
-use Rattle.layer_rules.specs.State.{Own, State, base_of, bitmap_own, child, chunk_of, is_open, one_child, open_with, units_of, with_own}
-use Rattle.layer_rules.specs.Testing.{is_over, is_word, on_open, settled_if}
+use Rattle.layer_rules.specs.State.{Own, State, base_in, base_of, bitmap_own, chunk_in, chunk_of, units_in, units_of, with_own}
+use Rattle.layer_rules.specs.Testing.{is_word}
 use Rattle.layer_rules.specs.UnitRows.{free_bytes, has_no_run, is_taken_at, longest_bytes, longest_run}
 use Rattle.layer_rules.specs.Units.{first_unit, touched_block, unit_count}
 use Rattle.layer_rules.specs.declared.Block.{Block}
 use Rattle.layer_rules.specs.declared.Fact.TheVariants as Said
 use Rattle.size_round.specs.Sizes.{ceil_div, up}
-use Rattle.space_core.specs.Cells.{Cells}
 use Rattle.space_core.specs.Runs.{first_place, first_run, free_count, is_free_run, is_taken_run, put_run, starts_free, starts_taken}
 use Rattle.space_core.specs.Words.{has_bytes, word_at}
-use Rattle.std.specs.Prelude.{Bool, List, None, Option, Some, [], cond, drop, false, is_none, length, max, nat_eq, nat_le, replicate, suc, take, true, zero, ℕ, ◌%◌, ◌&&◌, ◌*◌, ◌+◌, ◌-◌, ◌/◌, ◌^◌, ◌||◌, ◌∷◌}
+use Rattle.std.specs.Prelude.{Bool, List, None, Option, Some, [], cond, drop, false, is_none, length, max, nat_eq, nat_le, replicate, suc, take, true, zero, ℕ, ◌%◌, ◌&&◌, ◌*◌, ◌+◌, ◌-◌, ◌/◌, ◌^◌, ◌∷◌}
 
 -- ---- its chunk
 
@@ -150,54 +143,37 @@ is_bitmap_of unit count chunk base units =
     nat_le count (length units)
     && (nat_eq chunk.len (bitmap_chunk unit (length units)) && nat_eq base (chunk.place + bitmap_front (length units)))
 
-abbrev pub bitmap_settled : (unit count : ℕ) → Rules → State → Cells → Bool
-bitmap_settled unit count e s cells =
-    is_over is_bitmap_own s && (is_bitmap_of unit count (chunk_of s) (base_of s) (units_of s)
-    && (has_chunk e (chunk_of s) (child s 0) cells && e.is_settled (child s 0) cells))
-
 -- ---- the rules
+
+-- how it carves its chunk
+abbrev pub bitmap_carving : (unit count : ℕ) → Carving
+bitmap_carving unit count = record {
+  chunk_len = λ need. bitmap_chunk unit (bitmap_count unit count need);
+  first = λ need. bitmap_opened (bitmap_count unit count need);
+  chunk = chunk_in;
+  allocate = bitmap_allocate unit;
+  aligned_allocate = bitmap_aligned_allocate unit;
+  expand = bitmap_expand unit;
+  deallocate = bitmap_deallocate unit;
+  all_deallocated = λ own. bitmap_own (chunk_in own) (base_in own) (replicate (length (units_in own)) false);
+  refuses = λ n own. has_no_run (ceil_div n unit) (units_in own);
+  refuses_aligned = λ n a own. is_none (free_place unit n (max a 16) (base_in own) (units_in own));
+  has_free_tail = λ s. true;
+  is_out = λ b own. is_out_of_bitmap unit b (alone own);
+  extent = λ b own. touched_block unit (base_in own) b;
+  room = λ own. units_block unit (alone own);
+  read = λ k bytes. read_bitmap unit (kept_chunk k) bytes;
+  is_own = is_bitmap_own;
+  passes = λ own. is_bitmap_of unit count (chunk_in own) (base_in own) (units_in own);
+  is_image = λ k own bytes. is_bitmap bytes (chunk_in own).place (units_in own);
+  is_taken = λ own k. is_taken_at unit (base_in own) (units_in own) k;
+  is_meta = λ own k. is_bitmap_byte (alone own) k;
+  offers = all_offers;
+  alignment = 16;
+  rounded = λ n. up n unit;
+  fact = λ own. Said.Bitmap (free_bytes unit (alone own)) (longest_bytes unit (alone own));
+}
 
 unfoldable pub bitmap_rules : (unit count : ℕ) → Rules → Rules
 unfolding first_run first_place starts_free starts_taken put_run free_count longest_run are_bits read_bits most_units
-bitmap_rules unit count e = record {
-  nodes = suc e.nodes;
-  depth = suc e.depth;
-  leaf_tags = e.leaf_tags;
-  offers = all_offers;
-  alignment = 16;
-  good_alloc_size = λ n. if_served (λ m. up m unit) n;
-  set_up = λ need cells.
-      let units = bitmap_count unit count need in
-      let chunk = bitmap_chunk unit units in
-      open_chunk chunk (bitmap_opened units) (e.set_up (need_of need chunk) cells) (e.allocate chunk);
-  allocate = λ n. asked_for n (bitmap_allocate unit n);
-  aligned_allocate = λ n a. asked_for n (bitmap_aligned_allocate unit n a);
-  expand = λ delta. asked_to_expand delta (bitmap_expand unit delta);
-  reallocate = λ n.
-      asked_to_reallocate n (bitmap_deallocate unit)
-      (general_reallocate n all_offers (λ d. asked_to_expand d (bitmap_expand unit d)) (asked_for n (bitmap_allocate unit n)) (bitmap_deallocate unit));
-  deallocate = bitmap_deallocate unit;
-  deallocate_all = λ s cells. opened (with_own s (bitmap_own (chunk_of s) (base_of s) (replicate (length (units_of s)) false))) cells;
-  owns = λ b s. reply (may_hold b s && lies_in b (units_block unit s)) s;
-  owns_at = λ path possible b s. at_chunk path possible (may_hold b s && lies_in b (units_block unit s));
-  refuses = λ n s cells. over_limit_or n (has_no_run (ceil_div n unit) (units_of s));
-  refuses_aligned = λ n a s cells. over_limit_or n (is_none (bitmap_place_at unit n (max a 16) s));
-  has_free_tails = λ s. e.has_free_tails (child s 0);
-  is_out = λ b s cells. is_some_block b s && is_out_of_bitmap unit b s;
-  holds = λ b s. may_hold b s && lies_in b (units_block unit s);
-  route = λ b s. [];
-  is_routed = λ b s. is_plausible b && lies_in b (units_block unit s);
-  extent = λ b s. touched_block unit (base_of s) b;
-  read = λ fs bytes. if_set_up fs (open_with (read_bitmap unit (kept_chunk (kept_of fs)) bytes) (one_child (e.read (child_fields fs 0) bytes)));
-  is_settled = λ s cells. settled_if s e.leaf_tags cells (bitmap_settled unit count e s cells);
-  is_image = λ fs s bytes.
-      on_open s (is_bitmap bytes (chunk_of s).place (units_of s)
-      && (e.is_clean (chunk_of s) (child s 0) bytes && e.is_image (child_fields fs 0) (child s 0) bytes));
-  is_clean = λ b s bytes. true;
-  is_marked = λ b s bytes. true;
-  is_occupied = λ s cells k. is_open s && is_taken_at unit (base_of s) (units_of s) k;
-  is_meta = λ s k. is_open s && (is_bitmap_byte s k || (e.is_affix_byte (chunk_of s) (child s 0) k || e.is_meta (child s 0) k));
-  is_affix_byte = λ b s k. false;
-  state_numbers = λ fs. node_numbers fs ∷ e.state_numbers (child_fields fs 0);
-  facts = λ s cells. if_open s (Said.Bitmap (free_bytes unit s) (longest_bytes unit s)) ∷ e.facts (child s 0) cells;
-}
+bitmap_rules unit count e = carving_rules (bitmap_carving unit count) e

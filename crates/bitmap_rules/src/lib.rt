@@ -1,11 +1,13 @@
 //! The rules of a bitmap, and their laws.
 #![tactic(auto)]
 
+ghost use Rattle.bitmap_rules.specs.BitmapMeanings.{BitmapIsLawful};
 ghost use Rattle.bitmap_rules.specs.BitmapMeanings.{BitmapIsRegular, OpenBitmapIsSound, OpenBitmapHasImage, OutOfBitmap, UnitsFreeByBytes, FreePlaceIsLeast, NoFreePlace, BitmapPlaceIsLeast, NoBitmapPlace};
 
-/// A bitmap keeps the laws that every layer keeps, over any parent that does.
-pub fn bitmap_is_regular()
-    ensures { BitmapIsRegular }
+/// Where its numbers are proper, a bitmap is regular over a parent that is, and lawful over one that is lawful too.
+pub fn bitmap_is_lawful()
+    ensures regular { BitmapIsRegular }
+    ensures lawful { BitmapIsLawful }
 {}
 
 /// An open bitmap is sound, and its words stand, exactly where these facts hold of it.

@@ -1,5 +1,2 @@
-pub mod EachChild
-pub mod FallbackOut
-pub mod FallbackRegular
+pub mod FallbackMeanings
 pub mod FallbackRules
-pub mod OrElse

@@ -1,0 +1,12 @@
+pub mod CacheChains
+pub mod CacheImage
+pub mod CacheParts
+pub mod CacheWalk
+pub mod FreeListChanges
+pub mod FreeListFraming
+pub mod FreeListGood
+pub mod FreeListLawful
+pub mod FreeListOwning
+pub mod FreeListPaths
+pub mod FreeListPlacing
+pub mod FreeListRegular

@@ -1,13 +1,2 @@
-pub mod CacheChains
-pub mod CacheImage
-pub mod CacheParts
-pub mod CacheWalk
-pub mod FreeListChanges
-pub mod FreeListFraming
-pub mod FreeListGood
-pub mod FreeListLawful
 pub mod FreeListMeanings
-pub mod FreeListOwning
-pub mod FreeListPlacing
-pub mod FreeListRegular
 pub mod FreeListRules

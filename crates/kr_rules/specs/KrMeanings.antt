@@ -8,12 +8,13 @@ use Rattle.layer_rules.specs.declared.Block.{Block}
 use Rattle.layer_rules.specs.Allocating.{over_limit_or}
 use Rattle.layer_rules.specs.Blocks.{end_of}
 use Rattle.layer_rules.specs.Fields.{Fields, child_fields, kept_first, kept_of}
-use Rattle.layer_rules.specs.Rules.{Rules, IsSettled}
+use Rattle.layer_rules.specs.Rules.{Rules, IsSettled, HasSomeTags}
 use Rattle.layer_rules.specs.State.{Mode, State, child, chunk_of, is_open, kr_own, mode_of, one_child, open_with, position_of, units_of}
 use Rattle.layer_rules.specs.UnitRows.{has_no_run}
 use Rattle.layer_laws.specs.ChunkLaws.{HasChunk}
-use Rattle.layer_laws.specs.Lawful.{IsRegular}
+use Rattle.layer_laws.specs.Lawful.{IsRegular, IsLawful}
 use Rattle.kr_rules.specs.KrRules.{first_hole, holes_of, kr_chunk, kr_rules, kr_tail_fits, serves_tail}
+use Rattle.std.proofs.Common.{ℕ}
 
 -- what a kr asks of its size and of its parent
 pub record IsKrSize (size : ℕ) (e : Rules) : Type 0 where
@@ -24,6 +25,10 @@ pub record IsKrSize (size : ℕ) (e : Rules) : Type 0 where
 -- over a regular parent it is regular, whatever its size
 abbrev pub KrIsRegular : Type 0
 KrIsRegular = (size : ℕ) (e : Rules) → IsRegular e → IsRegular (kr_rules size e)
+
+-- over a parent that is regular and lawful, whose leaves have tags
+abbrev pub KrIsLawful : Type 0
+KrIsLawful = (size : ℕ) (e : Rules) → IsKrSize size e → HasSomeTags e → IsRegular e → IsLawful e → IsLawful (kr_rules size e)
 
 -- ---- what holds between calls
 

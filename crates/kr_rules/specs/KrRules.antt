@@ -1,25 +1,18 @@
 -- A kr: units of 16 bytes in one chunk of its parent. It serves from its tail first, later from runs of free units,
 -- which it keeps as holes: each has its length and the place of the next one at its front.
-use Rattle.layer_rules.specs.After.{Change, Serve, after, opened, placed, refuse, reply, say}
-use Rattle.layer_rules.specs.Allocating.{asked_for, over_limit_or}
+use Rattle.layer_laws.specs.Carving.{Carving, alone, carving_rules}
+use Rattle.layer_rules.specs.After.{Change, Serve, after, placed, refuse, say}
 use Rattle.layer_rules.specs.Blocks.{block, end_of, has_place, lies_in}
-use Rattle.layer_rules.specs.Chunks.{at_chunk, has_chunk}
-use Rattle.layer_rules.specs.Expanding.{asked_to_expand}
-use Rattle.layer_rules.specs.Facts.{if_open}
-use Rattle.layer_rules.specs.Fields.{Fields, chain_end, child_fields, kept_chunk, kept_first, kept_mode, kept_of, kept_position, node_numbers}
-use Rattle.layer_rules.specs.Offering.{if_served, offers_of}
-use Rattle.layer_rules.specs.Owning.{is_plausible, is_some_block, may_hold}
-use Rattle.layer_rules.specs.Reallocating.{asked_to_reallocate, general_reallocate}
+use Rattle.layer_rules.specs.Fields.{Kept, chain_end, kept_chunk, kept_first, kept_mode, kept_position}
+use Rattle.layer_rules.specs.Offering.{offers_of}
 use Rattle.layer_rules.specs.Rules.{Rules}
-use Rattle.layer_rules.specs.Setting.{if_set_up, need_of, open_chunk}
-use Rattle.layer_rules.specs.State.{Mode, Own, State, child, chunk_of, is_open, kr_own, list_mode, mode_of, one_child, open_with, position_of, region_mode, units_of, with_own}
-use Rattle.layer_rules.specs.Testing.{is_over, is_word, on_open, settled_if}
+use Rattle.layer_rules.specs.State.{Mode, Own, State, chunk_in, chunk_of, kr_own, list_mode, mode_in, mode_of, position_in, position_of, region_mode, units_in, units_of, with_own}
+use Rattle.layer_rules.specs.Testing.{is_word, on_open}
 use Rattle.layer_rules.specs.UnitRows.{free_bytes, has_no_run, is_taken_at, longest_bytes, longest_run}
 use Rattle.layer_rules.specs.declared.Block.{Block}
 use Rattle.layer_rules.specs.declared.Fact.TheVariants as Said
 use Rattle.layer_rules.specs.declared.Offers.{Offers}
 use Rattle.size_round.specs.Sizes.{up}
-use Rattle.space_core.specs.Cells.{Cells}
 use Rattle.space_core.specs.Runs.{first_run, free_count, is_free_run, is_taken_run, put_run, starts_free, starts_taken}
 use Rattle.space_core.specs.Words.{has_bytes, word_at}
 use Rattle.std.specs.List.{list_any}
@@ -96,10 +89,11 @@ free_runs p [] = []
 free_runs p (true ∷ us) = free_runs (p + 16) us
 free_runs p (false ∷ us) = joined p (free_runs (p + 16) us)
 
+-- the holes from a place on, up to the chain's end
 unfoldable pub read_holes : (steps place : ℕ) → List ℕ → List Block
 read_holes zero p bytes = []
 read_holes (suc n) p bytes =
-    elim (has_bytes bytes p 16) [ true ↦ block p (word_at bytes p) ∷ read_holes n (word_at bytes (p + 8)) bytes | false ↦ [] ]
+    elim (has_bytes bytes p 16 && not (nat_eq p chain_end)) [ true ↦ block p (word_at bytes p) ∷ read_holes n (word_at bytes (p + 8)) bytes | false ↦ [] ]
 
 -- A unit is free where it lies in a hole, and where it stands in the tail as long as that is served from.
 abbrev pub is_free_unit : List Block → (free_tail : Bool) (position place : ℕ) → Bool
@@ -126,8 +120,8 @@ abbrev pub holes_of : State → List Block
 holes_of s = free_runs (chunk_of s).place (hole_units s)
 
 -- its number and its holes
-abbrev pub is_kr_image : Fields → State → List ℕ → Bool
-is_kr_image fs s bytes = nat_eq (kept_first (kept_of fs)) (first_hole (holes_of s)) && is_hole_chain bytes (holes_of s)
+abbrev pub is_kr_image : Kept → State → List ℕ → Bool
+is_kr_image k s bytes = nat_eq (kept_first k) (first_hole (holes_of s)) && is_hole_chain bytes (holes_of s)
 
 abbrev pub is_hole_byte : State → ℕ → Bool
 is_hole_byte s k = list_any (λ hole. has_place (block hole.place 16) k) (holes_of s)
@@ -160,56 +154,38 @@ is_kr size chunk mode position units =
     nat_eq chunk.len (kr_chunk size chunk.len)
     && (nat_eq (length units) (chunk.len / 16) && has_free_tail_if mode chunk position units)
 
-abbrev pub kr_settled : (size : ℕ) → Rules → State → Cells → Bool
-kr_settled size e s cells =
-    is_over is_kr_own s && (is_kr size (chunk_of s) (mode_of s) (position_of s) (units_of s)
-    && (has_chunk e (chunk_of s) (child s 0) cells && e.is_settled (child s 0) cells))
-
 -- ---- the rules
+
+-- how it carves its chunk; it offers no aligned request, and no block grows where it stands
+abbrev pub kr_carving : (size : ℕ) → Carving
+kr_carving size = record {
+  chunk_len = kr_chunk size;
+  first = λ need. kr_opened;
+  chunk = chunk_in;
+  allocate = λ n. kr_allocate (up n 16) n;
+  aligned_allocate = λ n a. refuse;
+  expand = λ delta. say false;
+  deallocate = kr_deallocate;
+  all_deallocated = λ own. kr_own (chunk_in own) region_mode (chunk_in own).place (replicate (length (units_in own)) false);
+  -- the tail counts as free: its units are
+  refuses = λ n own. has_no_run (up n 16 / 16) (units_in own);
+  refuses_aligned = λ n a own. true;
+  has_free_tail = λ s. on_open s (tail_is_free s);
+  is_out = λ b own. is_out_of_kr b (alone own);
+  extent = λ b own. block b.place (up b.len 16);
+  room = chunk_in;
+  read = λ k bytes. read_kr (kept_chunk k) (kept_mode k) (kept_position k) (kept_first k) bytes;
+  is_own = is_kr_own;
+  passes = λ own. is_kr size (chunk_in own) (mode_in own) (position_in own) (units_in own);
+  is_image = λ k own bytes. is_kr_image k (alone own) bytes;
+  is_taken = λ own k. is_taken_at 16 (chunk_in own).place (units_in own) k;
+  is_meta = λ own k. is_hole_byte (alone own) k;
+  offers = kr_offers;
+  alignment = 16;
+  rounded = λ n. up n 16;
+  fact = λ own. Said.Kr (free_bytes 16 (alone own)) (longest_bytes 16 (alone own));
+}
 
 unfoldable pub kr_rules : (size : ℕ) → Rules → Rules
 unfolding first_run starts_free starts_taken put_run free_count longest_run free_runs read_holes units_around
-kr_rules size e = record {
-  nodes = suc e.nodes;
-  depth = suc e.depth;
-  leaf_tags = e.leaf_tags;
-  offers = kr_offers;
-  alignment = 16;
-  good_alloc_size = λ n. if_served (λ m. up m 16) n;
-  set_up = λ need cells.
-      let chunk = kr_chunk size need in
-      open_chunk chunk kr_opened (e.set_up (need_of need chunk) cells) (e.allocate chunk);
-  allocate = λ n. asked_for n (kr_allocate (up n 16) n);
-  -- not offered
-  aligned_allocate = λ n a. refuse;
-  expand = λ delta. asked_to_expand delta (say false);
-  reallocate = λ n.
-      asked_to_reallocate n kr_deallocate
-      (general_reallocate n kr_offers (λ d. asked_to_expand d (say false)) (asked_for n (kr_allocate (up n 16) n)) kr_deallocate);
-  deallocate = kr_deallocate;
-  deallocate_all = λ s cells. opened (with_own s (kr_own (chunk_of s) region_mode (chunk_of s).place (replicate (length (units_of s)) false))) cells;
-  owns = λ b s. reply (may_hold b s && lies_in b (chunk_of s)) s;
-  owns_at = λ path possible b s. at_chunk path possible (may_hold b s && lies_in b (chunk_of s));
-  -- the tail counts as free: its units are
-  refuses = λ n s cells. over_limit_or n (has_no_run (up n 16 / 16) (units_of s));
-  refuses_aligned = λ n a s cells. true;
-  has_free_tails = λ s. on_open s (tail_is_free s) && e.has_free_tails (child s 0);
-  is_out = λ b s cells. is_some_block b s && is_out_of_kr b s;
-  holds = λ b s. may_hold b s && lies_in b (chunk_of s);
-  route = λ b s. [];
-  is_routed = λ b s. is_plausible b && lies_in b (chunk_of s);
-  extent = λ b s. block b.place (up b.len 16);
-  read = λ fs bytes.
-      if_set_up fs (open_with (read_kr (kept_chunk (kept_of fs)) (kept_mode (kept_of fs)) (kept_position (kept_of fs)) (kept_first (kept_of fs)) bytes)
-      (one_child (e.read (child_fields fs 0) bytes)));
-  is_settled = λ s cells. settled_if s e.leaf_tags cells (kr_settled size e s cells);
-  is_image = λ fs s bytes.
-      on_open s (is_kr_image fs s bytes && (e.is_clean (chunk_of s) (child s 0) bytes && e.is_image (child_fields fs 0) (child s 0) bytes));
-  is_clean = λ b s bytes. true;
-  is_marked = λ b s bytes. true;
-  is_occupied = λ s cells k. is_open s && is_taken_at 16 (chunk_of s).place (units_of s) k;
-  is_meta = λ s k. is_open s && (is_hole_byte s k || (e.is_affix_byte (chunk_of s) (child s 0) k || e.is_meta (child s 0) k));
-  is_affix_byte = λ b s k. false;
-  state_numbers = λ fs. node_numbers fs ∷ e.state_numbers (child_fields fs 0);
-  facts = λ s cells. if_open s (Said.Kr (free_bytes 16 s) (longest_bytes 16 s)) ∷ e.facts (child s 0) cells;
-}
+kr_rules size e = carving_rules (kr_carving size) e

@@ -1,11 +1,13 @@
 //! The rules of a kr, and their laws.
 #![tactic(auto)]
 
+ghost use Rattle.kr_rules.specs.KrMeanings.{KrIsLawful};
 ghost use Rattle.kr_rules.specs.KrMeanings.{KrIsRegular, KrTailFirst, OpenKrIsSound, OpenKrHasImage, OutOfKr};
 
-/// A kr keeps the laws that every layer keeps, over any parent that does, whatever its size.
-pub fn kr_is_regular()
-    ensures { KrIsRegular }
+/// A kr is regular over a parent that is, whatever its size; and where its size is proper it is lawful over one that is lawful too.
+pub fn kr_is_lawful()
+    ensures regular { KrIsRegular }
+    ensures lawful { KrIsLawful }
 {}
 
 /// It serves from its tail as long as that has room.

@@ -1,6 +1,7 @@
 -- Lawful: what is to be proved of the rules of a form, in families, and what holds of every layer that is made.
 -- A form shows each family from those of its parents, a new law joins one family, and who rests on laws names the family.
 use Rattle.std.specs.Prelude.{ℕ, ◌≡◌, ◌≤◌, ◌<◌, ◌/◌, ◌⊎◌, ◌||◌, Bool, true, false, List, length, get_or, Option, Some, None, Ok, Err, is_none, nat_eq}
+use Rattle.std.specs.List.{starts_with}
 use Rattle.size_round.specs.Sizes.{limit}
 use Rattle.size_round.specs.SizeMeanings.{IsPower, IsMultiple}
 use Rattle.space_core.specs.Cells.{Cells}
@@ -8,14 +9,14 @@ use Rattle.space_core.specs.Memory.{most_cells}
 use Rattle.layer_rules.specs.declared.Asked.{Asked}
 use Rattle.layer_rules.specs.declared.Asked.TheVariants.{Yes, No}
 use Rattle.layer_rules.specs.declared.Block.{Block}
-use Rattle.layer_rules.specs.Blocks.{end_of}
+use Rattle.layer_rules.specs.Blocks.{end_of, is_apart}
 use Rattle.layer_rules.specs.Fields.{Fields, are_open, closed_fields}
 use Rattle.layer_rules.specs.State.{State, closed, is_open, uncounted}
 use Rattle.layer_rules.specs.Steady.{steady}
 use Rattle.layer_rules.specs.Unread.{unread}
-use Rattle.layer_rules.specs.After.{After, Placed, Serve, Opened, Change, Reallocated, moved_to, emptied, unmoved, Reallocate}
+use Rattle.layer_rules.specs.After.{After, after, Placed, Serve, Opened, Change, Reallocated, moved_to, emptied, unmoved, Reallocate}
 use Rattle.layer_rules.specs.Layering.{is_done}
-use Rattle.layer_rules.specs.Offering.{full_alignment}
+use Rattle.layer_rules.specs.Offering.{full_alignment, is_served_size}
 use Rattle.layer_rules.specs.Rules.{Rules, IsLeaf, IsSettled, AreApart, longer_if, owns_along, HasDistinctTags, HasSomeTags}
 use Rattle.layer_rules.specs.Testing.{has_no_cells}
 
@@ -29,14 +30,17 @@ pub record IsAlignment (a : ℕ) : Type 0 where
   pub some : 1 ≤ a
   pub most : a ≤ full_alignment
 
--- A good size is enough, and is the size itself where no layer serves that. The alignment is a power of two.
+-- A good size is enough, and is the size itself where no layer serves that. The alignment is a power of two. No route is longer than the
+-- layer is deep.
 pub record TellingLaws (e : Rules) : Type 0 where
   pub enough : (n : ℕ) → n ≤ e.good_alloc_size n
   pub of_nothing : e.good_alloc_size 0 ≡ 0
   pub above_limit : (n : ℕ) → limit < n → e.good_alloc_size n ≡ n
   pub aligned : IsAlignment e.alignment
-  -- each node has its fact
+  -- each node has its fact, and its row of numbers
   pub facts_count : (s : State) (cells : Cells) → length (e.facts s cells) ≡ e.nodes
+  pub numbers_count : (fs : Fields) → length (e.state_numbers fs) ≡ e.nodes
+  pub route_depth : (b : Block) (s : State) → length (e.route b s) ≤ e.depth
 
 -- ---- reading: what is told of a block is read of the fields alone
 
@@ -115,14 +119,15 @@ yes_if true answer = answer
 yes_if false Yes = No
 yes_if false answer = answer
 
--- ---- owning: `owns` answers what `holds` says, which goes by no statistics; it changes orders of use and statistics alone, and on a no
--- statistics alone. Where a layer on the way of a path can't have the block, all that changes of the answer is that a yes is a no,
+-- ---- owning: `owns` answers what `holds` says, which goes by no statistics; only an open layer holds a block, and only one of a length
+-- that is served. It changes orders of use and statistics alone, and on a no statistics alone. Where a layer on the way of a path can't have the block, all that changes of the answer is that a yes is a no,
 -- and it goes by the path alone
 pub record OwningLaws (e : Rules) : Type 0 where
   pub answer : (b : Block) (s : State) → (e.owns b s).owned ≡ e.holds b s
   pub rest : (b : Block) (s : State) → steady (e.owns b s).state ≡ steady s
   pub not_owned : (b : Block) (s : State) → (e.owns b s).owned ≡ false → uncounted (e.owns b s).state ≡ uncounted s
   pub open_holds : (b : Block) (s : State) → e.holds b s ≡ true → is_open s ≡ true
+  pub held_size : (b : Block) (s : State) → e.holds b s ≡ true → is_served_size b.len ≡ true
   pub holds_uncounted : (b : Block) (s t : State) → uncounted s ≡ uncounted t → e.holds b s ≡ e.holds b t
   pub along : (path : List ℕ) (possible : Bool) (b : Block) (s : State) → e.owns_at path possible b s ≡ yes_if possible (owns_along e path b s)
   pub by_path : (path : List ℕ) (b c : Block) (s : State) → e.owns_at path false b s ≡ e.owns_at path false c s
@@ -184,16 +189,18 @@ pub record UnrangedLaws (e : Rules) : Type 0 where
 
 -- ---- keeping: what calls keep and give
 
--- a request: the layer is sound again, extents stay, who is out stays out with its route, and the new block is out and apart from all that were
+-- a request: the layer is sound again, who is out stays out with its extent and its route, and the new block is out, apart from all that
+-- were, and on the route that served it
 pub record IsGood (e : Rules) (s : State) (cells : Cells) (n : ℕ) (r : After (Option Placed)) : Type 0 where
   pub is_set : is_open r.state ≡ true
   pub settled : IsSettled e r.state r.cells
-  pub extents : (b : Block) → e.extent b r.state ≡ e.extent b s
+  pub extents : (b : Block) → e.is_out b s cells ≡ true → e.extent b r.state ≡ e.extent b s
   pub routes : (b : Block) → e.is_out b s cells ≡ true → e.route b r.state ≡ e.route b s
   pub stays : (b : Block) → e.is_out b s cells ≡ true → e.is_out b r.state r.cells ≡ true
   pub len : (p : Placed) → r.answer ≡ Some p → p.block.len ≡ n
   pub out : (p : Placed) → r.answer ≡ Some p → e.is_out p.block r.state r.cells ≡ true
-  pub fresh : (p : Placed) → r.answer ≡ Some p → (b : Block) → e.is_out b s cells ≡ true → AreApart e s p.block b
+  pub found : (p : Placed) → r.answer ≡ Some p → e.route p.block r.state ≡ p.route
+  pub fresh : (p : Placed) → r.answer ≡ Some p → (b : Block) → e.is_out b s cells ≡ true → AreApart e r.state p.block b
 
 abbrev pub Good : Rules → Type 0
 Good e = (n : ℕ) (s : State) (cells : Cells) → is_open s ≡ true → IsSettled e s cells → IsGood e s cells n (e.allocate n s cells)
@@ -202,11 +209,11 @@ Good e = (n : ℕ) (s : State) (cells : Cells) → is_open s ≡ true → IsSett
 abbrev pub OnlyFreed : (Leaf : ℕ → Type 0) → (old new : Cells) → Type 0
 OnlyFreed Leaf old new = (c : ℕ) → (get_or new.tags c 0 ≡ get_or old.tags c 0) ⊎ ((get_or new.tags c 0 ≡ 0) × Leaf (get_or old.tags c 0))
 
--- a block comes back
+-- a block comes back: who is out and apart from it stays out, with its extent and its route
 pub record IsFreed (e : Rules) (s : State) (cells : Cells) (b : Block) (r : After Bool) : Type 0 where
   pub is_set : is_open r.state ≡ true
   pub settled : IsSettled e r.state r.cells
-  pub extents : (c : Block) → e.extent c r.state ≡ e.extent c s
+  pub extents : (c : Block) → e.is_out c s cells ≡ true → AreApart e s b c → e.extent c r.state ≡ e.extent c s
   pub routes : (c : Block) → e.is_out c s cells ≡ true → AreApart e s b c → e.route c r.state ≡ e.route c s
   pub stays : (c : Block) → e.is_out c s cells ≡ true → AreApart e s b c → e.is_out c r.state r.cells ≡ true
   pub table : OnlyFreed (IsLeaf e) cells r.cells
@@ -214,15 +221,17 @@ pub record IsFreed (e : Rules) (s : State) (cells : Cells) (b : Block) (r : Afte
 abbrev pub Freeing : Rules → Type 0
 Freeing e = (b : Block) (s : State) (cells : Cells) → is_open s ≡ true → IsSettled e s cells → e.is_out b s cells ≡ true → IsFreed e s cells b (e.deallocate b s cells)
 
--- A block is to grow. Where that is refused each block stays out; where it is done those that are apart from it, and they are apart from it still.
+-- A block is to grow, and keeps its route. Where that is refused each block stays out, with its extent and its route; where it is done those
+-- that are apart from it, and they are apart from it still.
 pub record IsGrown (e : Rules) (s : State) (cells : Cells) (b : Block) (delta : ℕ) (r : After Bool) : Type 0 where
   pub is_set : is_open r.state ≡ true
   pub settled : IsSettled e r.state r.cells
-  pub extents : (c : Block) → e.extent c r.state ≡ e.extent c s
+  pub extents : (c : Block) → e.is_out c s cells ≡ true → (r.answer ≡ true → AreApart e s b c) → e.extent c r.state ≡ e.extent c s
   pub routes : (c : Block) → e.is_out c s cells ≡ true → (r.answer ≡ true → AreApart e s b c) → e.route c r.state ≡ e.route c s
   pub stays : (c : Block) → e.is_out c s cells ≡ true → (r.answer ≡ true → AreApart e s b c) → e.is_out c r.state r.cells ≡ true
   pub out : e.is_out (longer_if r.answer delta b) r.state r.cells ≡ true
-  pub fresh : (c : Block) → e.is_out c s cells ≡ true → AreApart e s b c → AreApart e s (longer_if r.answer delta b) c
+  pub found : e.route (longer_if r.answer delta b) r.state ≡ e.route b s
+  pub fresh : (c : Block) → e.is_out c s cells ≡ true → AreApart e s b c → AreApart e r.state (longer_if r.answer delta b) c
   pub table : OnlyOwnCells e cells r.cells
 
 abbrev pub Growing : Rules → Type 0
@@ -262,18 +271,23 @@ abbrev pub OnlyOwnChanged : Rules → (old new : Cells) → Type 0
 OnlyOwnChanged e old new =
     (c : ℕ) → (get_or new.tags c 0 ≡ get_or old.tags c 0) ⊎ (IsFreeOrOwn e (get_or old.tags c 0) × IsFreeOrOwn e (get_or new.tags c 0))
 
--- Where it is refused each block stays out with its route; where it is done those that are apart from the old block, and they are apart
--- from the new one. This stands where the old one stood, or apart from it. Only for 0 bytes there is no block then.
+-- the extent of the block c now has no byte in common with what that of b was
+pub record IsMovedApart (e : Rules) (s t : State) (b c : Block) : Type 0 where
+  pub either : is_apart (e.extent c t) (e.extent b s) ≡ true
+
+-- Where it is refused each block stays out, with its extent and its route; where it is done those that are apart from the old block, and
+-- they are apart from the new one. This stands where the old one stood, or takes up no byte that the old one took up. Only for 0 bytes
+-- there is no block then.
 pub record IsReallocated (e : Rules) (s : State) (cells : Cells) (b : Block) (n : ℕ) (r : After Reallocated) : Type 0 where
   pub is_set : is_open r.state ≡ true
   pub settled : IsSettled e r.state r.cells
-  pub extents : (c : Block) → e.extent c r.state ≡ e.extent c s
+  pub extents : (c : Block) → e.is_out c s cells ≡ true → (is_done r.answer ≡ true → AreApart e s b c) → e.extent c r.state ≡ e.extent c s
   pub routes : (c : Block) → e.is_out c s cells ≡ true → (is_done r.answer ≡ true → AreApart e s b c) → e.route c r.state ≡ e.route c s
   pub stays : (c : Block) → e.is_out c s cells ≡ true → (is_done r.answer ≡ true → AreApart e s b c) → e.is_out c r.state r.cells ≡ true
   pub len : (c : Block) → r.answer ≡ moved_to c → c.len ≡ n
   pub out : (c : Block) → r.answer ≡ moved_to c → e.is_out c r.state r.cells ≡ true
-  pub fresh : (c : Block) → r.answer ≡ moved_to c → (d : Block) → e.is_out d s cells ≡ true → AreApart e s b d → AreApart e s c d
-  pub place : (c : Block) → r.answer ≡ moved_to c → (c.place ≡ b.place) ⊎ AreApart e s c b
+  pub fresh : (c : Block) → r.answer ≡ moved_to c → (d : Block) → e.is_out d s cells ≡ true → AreApart e s b d → AreApart e r.state c d
+  pub place : (c : Block) → r.answer ≡ moved_to c → (c.place ≡ b.place) ⊎ IsMovedApart e s r.state b c
   pub empty : n ≡ 0 → r.answer ≡ emptied
   pub some : r.answer ≡ emptied → n ≡ 0
   pub count : length r.cells.tags ≡ length cells.tags
@@ -287,6 +301,7 @@ Reallocating e =
 
 pub record KeepsTold (e : Rules) (s t : State) (cells : Cells) : Type 0 where
   pub settled : IsSettled e t cells
+  pub holds : (c : Block) → e.holds c t ≡ e.holds c s
   pub extents : (c : Block) → e.extent c t ≡ e.extent c s
   pub routes : (c : Block) → e.is_out c s cells ≡ true → e.route c t ≡ e.route c s
   pub out : (c : Block) → e.is_out c t cells ≡ e.is_out c s cells
@@ -307,6 +322,8 @@ pub record KeepingLaws (e : Rules) : Type 0 where
   pub grown : Growing e
   pub emptied : Emptying e
   pub reallocated : Reallocating e
+  -- a block that is to have the length that it has stays as it is
+  pub same_length : (b : Block) (s : State) (cells : Cells) → e.reallocate b.len b s cells ≡ after (moved_to b) s cells
   pub aligned : AlignedGood e
   pub owned : OwnsKeeping e
 
@@ -397,11 +414,53 @@ pub record OpeningLaws (e : Rules) : Type 0 where
   pub closed_image : (bytes : List ℕ) → e.is_image closed_fields closed bytes ≡ true
   pub opens : Opens e
 
+-- ---- holding: whose a block is
+
+-- each byte of the block lies in a cell of the leaves
+pub record IsInOwnCells (e : Rules) (b : Block) (cells : Cells) : Type 0 where
+  pub at : (i : ℕ) → b.place ≤ i → i < end_of b → IsLeaf e (get_or cells.tags (i / 64) 0)
+
+-- where owns is offered, what is out is held
+abbrev pub HoldingOut : Rules → Type 0
+HoldingOut e = e.offers.owns ≡ true → (b : Block) (s : State) (cells : Cells) → IsSettled e s cells → e.is_out b s cells ≡ true → e.holds b s ≡ true
+
+-- what is held lies in cells of the leaves, so that no two layers with other leaves hold one block
+abbrev pub HoldingOwn : Rules → Type 0
+HoldingOwn e = (b : Block) (s : State) (cells : Cells) → IsSettled e s cells → e.holds b s ≡ true → IsInOwnCells e b cells
+
+pub record HoldingLaws (e : Rules) : Type 0 where
+  pub out_held : HoldingOut e
+  pub own : HoldingOwn e
+
+-- ---- paths: what a layer at a path's end says of a block
+
+-- a yes says that the path begins the route, and a no says that it doesn't
+pub record AnswersRoute (path route : List ℕ) (said : Asked) : Type 0 where
+  pub yes : said ≡ Yes → starts_with nat_eq route path ≡ true
+  pub no : said ≡ No → starts_with nat_eq route path ≡ false
+
+-- of a block that is out the layer at a path's end says yes exactly where the path begins the block's route
+abbrev pub SayingRoute : Rules → Type 0
+SayingRoute e = (path : List ℕ) (b : Block) (s : State) (cells : Cells) → IsSettled e s cells → e.is_out b s cells ≡ true
+    → AnswersRoute path (e.route b s) (owns_along e path b s)
+
+-- what is said yes to at a path's end lies in cells of the leaves, whether it is out or not
+abbrev pub SayingOwn : Rules → Type 0
+SayingOwn e = (path : List ℕ) (b : Block) (s : State) (cells : Cells) → IsSettled e s cells → owns_along e path b s ≡ Yes → IsInOwnCells e b cells
+
+pub record PathLaws (e : Rules) : Type 0 where
+  pub said_route : SayingRoute e
+  pub said_own : SayingOwn e
+  -- what is said yes to has a length that is served
+  pub said_size : (path : List ℕ) (b : Block) (s : State) → owns_along e path b s ≡ Yes → is_served_size b.len ≡ true
+
 pub record IsLawful (e : Rules) : Type 0 where
   pub keeping : KeepingLaws e
   pub placing : PlacingLaws e
   pub framing : FramingLaws e
   pub opening : OpeningLaws e
+  pub holding : HoldingLaws e
+  pub paths : PathLaws e
 
 -- ==== every layer that is made
 

@@ -6,12 +6,13 @@ use Rattle.space_core.specs.Memory.{Memory, IsMemory}
 use Rattle.layer_rules.specs.declared.Block.{Block}
 use Rattle.layer_rules.specs.declared.Refused.{Refused}
 use Rattle.layer_rules.specs.Blocks.{end_of, lies_in, is_apart}
-use Rattle.layer_rules.specs.Rules.{Rules, IsLeaf, IsBeside, HasDistinctTags, HasMadeTags, HasNoCells}
+use Rattle.layer_rules.specs.Rules.{Rules, IsLeaf, IsBeside, HasDistinctTags, HasMadeTags, HasNoCells, owns_along}
 use Rattle.layer_rules.specs.State.{is_open}
+use Rattle.layer_rules.specs.After.{Placed}
 use Rattle.layer_rules.specs.Fields.{are_open}
 use Rattle.layer_rules.specs.Steady.{steady}
-use Rattle.layer_rules.specs.Layering.{LayerModel, Expands, DeallocatesAll, AlignedAllocates, Reallocates, Owns, state_of, Stands, IsSetUp, IsShut, IsOutOf, IsCleanOf, IsMarkedOf, AreApartIn, ForeignKept, IsRoutedIn, SetsUp, TearsDown, Allocates, Deallocates}
-use Rattle.layer_laws.specs.Lawful.{IsMade, ChangesInside, IsSameOrApart, IsFreeOrOwn, Same}
+use Rattle.layer_rules.specs.Layering.{LayerModel, Expands, DeallocatesAll, AlignedAllocates, Reallocates, Owns, state_of, Stands, IsSetUp, IsShut, IsOutOf, IsCleanOf, IsMarkedOf, AreApartIn, ForeignKept, IsRoutedIn, SetsUp, TearsDown, Allocates, Deallocates, allocated, aligned_allocated}
+use Rattle.layer_laws.specs.Lawful.{IsMade, IsInOwnCells, AnswersRoute, ChangesInside, IsSameOrApart, IsFreeOrOwn, Same, most_layers}
 
 -- the bytes that a block takes up in its Space
 abbrev pub extent_of : LayerModel → Memory → Block → Block
@@ -27,7 +28,7 @@ route_of t m b = t.rules.route b (state_of t m)
 pub record IsNewBlock (t t' : LayerModel) (m m' : Memory) (n : ℕ) (b : Block) : Type 0 where
   pub len : b.len ≡ n
   pub out : IsOutOf t' m' b
-  pub fresh : (c : Block) → IsOutOf t m c → AreApartIn t m b c
+  pub fresh : (c : Block) → IsOutOf t m c → AreApartIn t' m' b c
 
 abbrev pub AllocateStands : Type 0
 AllocateStands = (t t' : LayerModel) (m m' : Memory) (n : ℕ) (r : Option Block) → IsMade t.rules → Stands t m → IsSetUp t → Allocates t t' m m' n r → Stands t' m'
@@ -44,12 +45,18 @@ AllocateKeepsOut =
 abbrev pub AllocateKeepsExtents : Type 0
 AllocateKeepsExtents =
     (t t' : LayerModel) (m m' : Memory) (n : ℕ) (r : Option Block) → IsMade t.rules → Stands t m → IsSetUp t → Allocates t t' m m' n r
-    → (c : Block) → extent_of t' m' c ≡ extent_of t m c
+    → (c : Block) → IsOutOf t m c → extent_of t' m' c ≡ extent_of t m c
 
 abbrev pub AllocateKeepsRoutes : Type 0
 AllocateKeepsRoutes =
     (t t' : LayerModel) (m m' : Memory) (n : ℕ) (r : Option Block) → IsMade t.rules → Stands t m → IsSetUp t → Allocates t t' m m' n r
     → (c : Block) → IsOutOf t m c → route_of t' m' c ≡ route_of t m c
+
+-- the route of a new block is the one that served it
+abbrev pub AllocateFinds : Type 0
+AllocateFinds =
+    (t t' : LayerModel) (m m' : Memory) (n : ℕ) (r : Option Block) → IsMade t.rules → Stands t m → IsSetUp t → Allocates t t' m m' n r
+    → (p : Placed) → (allocated t m n).answer ≡ Some p → route_of t' m' p.block ≡ p.route
 
 -- ---- a block that is out is given back
 
@@ -66,7 +73,7 @@ DeallocateKeepsOut =
 abbrev pub DeallocateKeepsExtents : Type 0
 DeallocateKeepsExtents =
     (t t' : LayerModel) (m m' : Memory) (b : Block) (r : Bool) → IsMade t.rules → Stands t m → IsOutOf t m b → Deallocates t t' m m' b r
-    → (c : Block) → extent_of t' m' c ≡ extent_of t m c
+    → (c : Block) → IsOutOf t m c → AreApartIn t m b c → extent_of t' m' c ≡ extent_of t m c
 
 abbrev pub DeallocateKeepsRoutes : Type 0
 DeallocateKeepsRoutes =
@@ -116,6 +123,10 @@ ApartShareNoByte = (t : LayerModel) (m : Memory) (b c : Block) → IsMade t.rule
 abbrev pub OutIsRouted : Type 0
 OutIsRouted = (t : LayerModel) (m : Memory) (b : Block) → IsMade t.rules → Stands t m → IsOutOf t m b → IsRoutedIn t b
 
+-- and there are at most eight of them
+abbrev pub RouteIsShort : Type 0
+RouteIsShort = (t : LayerModel) (m : Memory) (b : Block) → IsMade t.rules → length (route_of t m b) ≤ most_layers
+
 -- its place is a multiple of the layer's alignment
 abbrev pub OutIsAligned : Type 0
 OutIsAligned = (t : LayerModel) (m : Memory) (b : Block) → IsMade t.rules → Stands t m → IsOutOf t m b → b.place % t.rules.alignment ≡ 0
@@ -127,6 +138,29 @@ OpenAsFields = (t : LayerModel) (m : Memory) → IsMade t.rules → is_open (sta
 -- and only an open one has blocks out
 abbrev pub OutIsSetUp : Type 0
 OutIsSetUp = (t : LayerModel) (m : Memory) (b : Block) → IsMade t.rules → Stands t m → IsOutOf t m b → IsSetUp t
+
+-- ---- whose a block is
+
+-- where owns is offered, a block that is out is held
+abbrev pub OutIsHeld : Type 0
+OutIsHeld = (t : LayerModel) (m : Memory) (b : Block) → IsMade t.rules → Stands t m → t.rules.offers.owns ≡ true → IsOutOf t m b → t.rules.holds b (state_of t m) ≡ true
+
+-- a block that is held lies in cells of the layer's leaves
+abbrev pub HeldIsOwn : Type 0
+HeldIsOwn = (t : LayerModel) (m : Memory) (b : Block) → IsMade t.rules → Stands t m → t.rules.holds b (state_of t m) ≡ true → IsInOwnCells t.rules b m.cells
+
+-- so no two layers with other leaves hold one block
+abbrev pub OthersHoldNone : Type 0
+OthersHoldNone =
+    (t u : LayerModel) (m : Memory) (b : Block) → IsMade t.rules → Stands t m → IsMade u.rules → Stands u m → IsBeside t.rules u.rules
+    → t.rules.holds b (state_of t m) ≡ true → u.rules.holds b (state_of u m) ≡ true → ⊥
+
+-- Along a path to a layer that tells what it owns, the answer for a block that is out is yes where the path begins the block's route,
+-- and no where it doesn't.
+abbrev pub PathsAnswerRoutes : Type 0
+PathsAnswerRoutes =
+    (t : LayerModel) (m : Memory) (path : List ℕ) (b : Block) → IsMade t.rules → Stands t m → IsOutOf t m b
+    → AnswersRoute path (route_of t m b) (owns_along t.rules path b (state_of t m))
 
 -- ---- closed layers
 
@@ -162,13 +196,14 @@ pub record ChangesOwn (e : Rules) (m m' : Memory) : Type 0 where
 -- ---- a block grows
 
 -- The layer stands again; the block with the length that it has then is out, and apart from all that it was apart from.
--- Blocks that are out stay out, where it grew those that are apart from it; extents stay.
+-- It keeps its route. Blocks that are out stay out with their extents and routes, where it grew those that are apart from it.
 pub record ExpandKeeps (t t' : LayerModel) (m m' : Memory) (b b' : Block) (r : Bool) : Type 0 where
   pub stands : Stands t' m'
   pub gives : IsOutOf t' m' b'
+  pub found : route_of t' m' b' ≡ route_of t m b
   pub apart : (c : Block) → IsOutOf t m c → AreApartIn t m b c → AreApartIn t' m' b' c
   pub out : (c : Block) → IsOutOf t m c → (r ≡ true → AreApartIn t m b c) → IsOutOf t' m' c
-  pub extents : (c : Block) → extent_of t' m' c ≡ extent_of t m c
+  pub extents : (c : Block) → IsOutOf t m c → (r ≡ true → AreApartIn t m b c) → extent_of t' m' c ≡ extent_of t m c
   pub routes : (c : Block) → IsOutOf t m c → (r ≡ true → AreApartIn t m b c) → route_of t' m' c ≡ route_of t m c
   pub changes_own : ChangesOwn t.rules m m'
 
@@ -185,13 +220,14 @@ RefusedExpandChangesNone =
 
 -- ---- a block is served at a multiple of what is asked
 
--- The layer stands again; the new block is as one of `allocate`, and at a multiple of a. Blocks that are out stay out, with their
+-- The layer stands again; the new block is as one of `allocate`, on the route that served it, and at a multiple of a. Blocks that are out stay out, with their
 -- extents and routes.
 pub record AlignedAllocateKeeps (t t' : LayerModel) (m m' : Memory) (n a : ℕ) (r : Option Block) : Type 0 where
   pub stands : Stands t' m'
   pub gives : (b : Block) → r ≡ Some b → IsNewBlock t t' m m' n b × (b.place % a ≡ 0)
+  pub found : (p : Placed) → (aligned_allocated t m n a).answer ≡ Some p → route_of t' m' p.block ≡ p.route
   pub out : (c : Block) → IsOutOf t m c → IsOutOf t' m' c
-  pub extents : (c : Block) → extent_of t' m' c ≡ extent_of t m c
+  pub extents : (c : Block) → IsOutOf t m c → extent_of t' m' c ≡ extent_of t m c
   pub routes : (c : Block) → IsOutOf t m c → route_of t' m' c ≡ route_of t m c
   pub changes_own : ChangesOwn t.rules m m'
 
@@ -203,16 +239,16 @@ AlignedAllocateLeaves =
 -- ---- a block gets another length, here or elsewhere
 
 -- The layer stands again. Where there is a block then, it is out, and apart from all that the old one was apart from; where this was done,
--- it has the new length. Blocks that are out stay out with their routes, where it was done those that are apart from the old block;
--- extents stay.
+-- it has the new length, and it stands where the old one stood or takes up no byte that this took up. Blocks that are out stay out with
+-- their extents and routes, where it was done those that are apart from the old block.
 pub record ReallocateKeeps (t t' : LayerModel) (m m' : Memory) (b b' : Block) (n : ℕ) (r : Bool) : Type 0 where
   pub stands : Stands t' m'
   pub len : r ≡ true → b'.len ≡ n
   pub gives : 1 ≤ b'.len → IsOutOf t' m' b'
   pub apart : 1 ≤ b'.len → (c : Block) → IsOutOf t m c → AreApartIn t m b c → AreApartIn t' m' b' c
-  pub place : 1 ≤ b'.len → (b'.place ≡ b.place) ⊎ AreApartIn t' m' b' b
+  pub place : 1 ≤ b'.len → (b'.place ≡ b.place) ⊎ (is_apart (extent_of t' m' b') (extent_of t m b) ≡ true)
   pub out : (c : Block) → IsOutOf t m c → (r ≡ true → AreApartIn t m b c) → IsOutOf t' m' c
-  pub extents : (c : Block) → extent_of t' m' c ≡ extent_of t m c
+  pub extents : (c : Block) → IsOutOf t m c → (r ≡ true → AreApartIn t m b c) → extent_of t' m' c ≡ extent_of t m c
   pub routes : (c : Block) → IsOutOf t m c → (r ≡ true → AreApartIn t m b c) → route_of t' m' c ≡ route_of t m c
   pub changes_own : ChangesOwn t.rules m m'
 

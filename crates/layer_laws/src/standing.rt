@@ -1,6 +1,6 @@
 //! What callers may rest on: a layer stands after each call, and blocks that are out keep apart.
 
-ghost use Rattle.layer_laws.specs.Standing.{AllocateStands, AllocateGives, AllocateKeepsOut, AllocateKeepsExtents, AllocateKeepsRoutes, DeallocateStands, DeallocateKeepsOut, DeallocateKeepsExtents, DeallocateKeepsRoutes, WriteLeaves, ExpandLeaves, ReallocateLeaves, AlignedAllocateLeaves, RefusedExpandChangesNone, RefusedReallocateChangesNone, OwnsLeaves, DeallocateAllLeaves, OutIsPlaced, OutIsInSpace, ApartShareNoByte, OutIsRouted, OutIsAligned, OpenAsFields, OutIsSetUp, ShutHasNoCells, ShutStands, SetUpStands, TearDownStands, SetUpChangesOwn, TearDownChangesOwn, AllocateChangesOwn, DeallocateChangesOwn, WriteChangesOwn, ChangesInTurn, MemberChangesOwn, OthersStand, OthersKeepState, OthersKeepOut, OthersKeepBytes, OthersKeepClean, OthersKeepMarked};
+ghost use Rattle.layer_laws.specs.Standing.{AllocateStands, AllocateGives, AllocateKeepsOut, AllocateKeepsExtents, AllocateKeepsRoutes, AllocateFinds, DeallocateStands, DeallocateKeepsOut, DeallocateKeepsExtents, DeallocateKeepsRoutes, WriteLeaves, ExpandLeaves, ReallocateLeaves, AlignedAllocateLeaves, RefusedExpandChangesNone, RefusedReallocateChangesNone, OwnsLeaves, DeallocateAllLeaves, OutIsPlaced, OutIsInSpace, ApartShareNoByte, OutIsRouted, OutIsAligned, OpenAsFields, OutIsSetUp, OutIsHeld, HeldIsOwn, OthersHoldNone, PathsAnswerRoutes, ShutHasNoCells, ShutStands, SetUpStands, TearDownStands, SetUpChangesOwn, TearDownChangesOwn, AllocateChangesOwn, DeallocateChangesOwn, WriteChangesOwn, ChangesInTurn, MemberChangesOwn, OthersStand, OthersKeepState, OthersKeepOut, OthersKeepBytes, OthersKeepClean, OthersKeepMarked, RouteIsShort};
 
 /// A layer that is asked for a block stands again; the new block is apart from all that were out, and these are out still.
 pub fn allocate_keeps()
@@ -9,6 +9,7 @@ pub fn allocate_keeps()
     ensures out { AllocateKeepsOut }
     ensures extents { AllocateKeepsExtents }
     ensures routes { AllocateKeepsRoutes }
+    ensures found { AllocateFinds }
 {}
 
 /// A layer that gets a block back stands again, and each block that is apart from it is out still.
@@ -58,15 +59,26 @@ pub fn write_keeps()
     ensures { WriteLeaves }
 {}
 
-/// A block that is out lies in its extent, and this in cells of the layer's leaves. Its place is aligned.
+/// A block that is out lies in its extent, and this in cells of the layer's leaves. Its route has at most eight steps, and its place is
+/// aligned.
 pub fn out_is_placed()
     ensures extent { OutIsPlaced }
     ensures space { OutIsInSpace }
     ensures apart { ApartShareNoByte }
     ensures routed { OutIsRouted }
+    ensures route { RouteIsShort }
     ensures aligned { OutIsAligned }
     ensures open { OpenAsFields }
     ensures set_up { OutIsSetUp }
+{}
+
+/// Where owns is offered, a block that is out is held. What is held lies in cells of the layer's own leaves, so that no two layers with
+/// other leaves hold one block. Asked along a path, a layer says yes to a block that is out exactly where the path begins its route.
+pub fn out_is_held()
+    ensures held { OutIsHeld }
+    ensures own { HeldIsOwn }
+    ensures others { OthersHoldNone }
+    ensures paths { PathsAnswerRoutes }
 {}
 
 /// A closed layer stands exactly where no cell has a tag of its leaves.

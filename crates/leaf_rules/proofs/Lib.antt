@@ -1,0 +1,3 @@
+pub mod MemLawful
+pub mod MemPaths
+pub mod MemRegular

@@ -1,4 +1,2 @@
 pub mod LeafMeanings
-pub mod MemLawful
-pub mod MemRegular
 pub mod MemRules

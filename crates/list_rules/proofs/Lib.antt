@@ -1,0 +1,9 @@
+pub mod ListEmptied
+pub mod ListHeld
+pub mod ListHolder
+pub mod ListLawful
+pub mod ListOrder
+pub mod ListOut
+pub mod ListRegular
+pub mod ListServing
+pub mod ListTurns

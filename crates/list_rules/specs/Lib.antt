@@ -1,5 +1,2 @@
-pub mod ListOrder
-pub mod ListOut
-pub mod ListRegular
+pub mod ListMeanings
 pub mod ListRules
-pub mod ListServing

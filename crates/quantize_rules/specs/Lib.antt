@@ -1,3 +1,2 @@
-pub mod QuantizeLawful
 pub mod QuantizeMeanings
 pub mod QuantizeRules

@@ -1,3 +1,2 @@
-pub mod QuotaLawful
 pub mod QuotaMeanings
 pub mod QuotaRules

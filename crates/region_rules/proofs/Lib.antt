@@ -1,0 +1,2 @@
+pub mod RegionLawful
+pub mod RegionRegular

@@ -1,4 +1,2 @@
-pub mod RegionLawful
 pub mod RegionMeanings
-pub mod RegionRegular
 pub mod RegionRules

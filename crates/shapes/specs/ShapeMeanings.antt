@@ -1,6 +1,6 @@
 -- ShapeMeanings: what it is that a shape is proper, and what holds of the rules of each shape and of each proper one.
 use Rattle.size_round.specs.Sizes.{is_between}
-use Rattle.std.specs.Prelude.{◌≡◌, ℕ, ◌<◌, ◌↔◌, true, List, length, ⊤}
+use Rattle.std.specs.Prelude.{◌≡◌, ℕ, ◌<◌, ◌↔◌, true, List, length}
 use Rattle.layer_rules.specs.Members.{nth}
 use Rattle.layer_rules.specs.Rules.{HasDistinctTags, HasSomeTags}
 use Rattle.layer_laws.specs.Lawful.{UnrangedLaws, IsRegular, IsLawful, IsMade}
@@ -48,33 +48,14 @@ ShapesHaveUnrangedLaws = (e : Shape) → UnrangedLaws (rules_of e)
 
 -- ---- every proper shape
 
--- each layer has a form whose rules are lawful over lawful rules
-abbrev mutual
-  pub HasLawfulForms : Shape → Type 0
-  HasLawfulForms null = ⊤
-  HasLawfulForms (mem tag) = ⊤
-  HasLawfulForms (region size align e) = HasLawfulForms e
-  HasLawfulForms (bitmap unit count e) = ⊥
-  HasLawfulForms (kr size e) = ⊥
-  HasLawfulForms (freelist least greatest e) = HasLawfulForms e
-  HasLawfulForms (quantize kind e) = HasLawfulForms e
-  HasLawfulForms (stats e) = HasLawfulForms e
-  HasLawfulForms (affix prefix suffix e) = HasLawfulForms e
-  HasLawfulForms (segregate thresholds es) = HaveLawfulForms es
-  HasLawfulForms (buckets least greatest step es) = HaveLawfulForms es
-  HasLawfulForms (fallback p f) = ⊥
-  HasLawfulForms (list es) = ⊥
-
-  pub HaveLawfulForms : Shapes → Type 0
-  HaveLawfulForms no_members = ⊤
-  HaveLawfulForms (member e es) = HasLawfulForms e × HaveLawfulForms es
-
+-- its rules are regular
 abbrev pub ShapesAreRegular : Type 0
 ShapesAreRegular = (e : Shape) → is_proper e ≡ true → IsRegular (rules_of e)
 
--- where its leaves have tags of their own
+-- they are lawful where its leaves have tags of their own
 abbrev pub ShapesAreLawful : Type 0
-ShapesAreLawful = (e : Shape) → is_proper e ≡ true → HasLawfulForms e → HasDistinctTags (rules_of e) → HasSomeTags (rules_of e) → IsLawful (rules_of e)
+ShapesAreLawful = (e : Shape) → is_proper e ≡ true → HasDistinctTags (rules_of e) → HasSomeTags (rules_of e) → IsLawful (rules_of e)
 
+-- those of a composition are the rules of a layer that may be made
 abbrev pub CompositionsAreMade : Type 0
-CompositionsAreMade = (e : Shape) → is_composition e ≡ true → HasLawfulForms e → IsMade (rules_of e)
+CompositionsAreMade = (e : Shape) → is_composition e ≡ true → IsMade (rules_of e)

@@ -21,13 +21,13 @@ pub fn every_shape()
     ensures { ShapesHaveUnrangedLaws }
 {}
 
-/// Each proper shape is regular, and lawful where its forms are and its leaves have tags of their own.
+/// Each proper shape is regular, and lawful where its leaves have tags of their own.
 pub fn every_proper_shape()
     ensures regular { ShapesAreRegular }
     ensures lawful { ShapesAreLawful }
 {}
 
-/// Each composition whose forms are lawful is a layer that may be made.
+/// Each composition is a layer that may be made.
 pub fn every_composition()
     ensures { CompositionsAreMade }
 {}

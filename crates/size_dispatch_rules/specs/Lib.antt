@@ -1,9 +1,4 @@
 pub mod SegregateRules
 pub mod SegregateMeanings
-pub mod SegregateLawful
 pub mod BucketsRules
 pub mod BucketsMeanings
-pub mod BucketsLawful
-pub mod SameRows
-pub mod SegregateRows
-pub mod BucketsRows

@@ -1,1 +1,4 @@
+pub mod KindLaws
 pub mod NextPower
+pub mod PowerLaws
+pub mod UpLeast

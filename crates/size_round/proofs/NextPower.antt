@@ -3,8 +3,8 @@ use Rattle.std.proofs.Common.{◌≡◌, refl, sym, subst, ℕ, ◌*◌, ◌/◌
 use Rattle.std.proofs.lemmas.Bool.{cases_lt}
 use Rattle.size_round.specs.Sizes.{limit, power_of_two, rounded}
 use Rattle.size_round.specs.SizeMeanings.{IsPower}
-use Rattle.size_round.specs.PowerLaws.{next_power, rounded_is_least_power}
-use Rattle.size_round.specs.KindLaws.{rounded_is_bounded}
+use Rattle.size_round.proofs.PowerLaws.{next_power, rounded_is_least_power}
+use Rattle.size_round.proofs.KindLaws.{rounded_is_bounded}
 
 pub next_is_least : (n p : ℕ) → 1 ≤ n → IsPower p → n ≤ p → p / 2 < max 1 n → p ≡ rounded power_of_two n
 next_is_least n p s w l h =

@@ -1,5 +1,2 @@
-pub mod KindLaws
-pub mod PowerLaws
 pub mod SizeMeanings
 pub mod Sizes
-pub mod UpLeast

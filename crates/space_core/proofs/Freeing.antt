@@ -3,7 +3,7 @@ use Rattle.std.proofs.Common.{ℕ, ◌≡◌, ◌≢◌, ◌+◌, ◌-◌, ◌�
 use Rattle.std.proofs.lemmas.Bool.{cases_lt}
 use Rattle.std.proofs.lemmas.Bool.Decides.{nat_tests}
 use Rattle.std.proofs.lemmas.List.{ext_get_or, get_or-map, get_or_past, length-map}
-use Rattle.space_core.specs.CellRuns.{length-put_run}
+use Rattle.space_core.proofs.CellRuns.{length-put_run}
 use Rattle.space_core.specs.Runs.{put_run}
 use Rattle.space_core.proofs.Rows.{put-inside, put-outside}
 

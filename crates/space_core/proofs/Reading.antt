@@ -7,7 +7,7 @@ use Rattle.std.proofs.Math.Nat.{pow-suc}
 use Rattle.std.proofs.Math.Pow.{pow_mono}
 use Rattle.std.specs.Int.{IsNextPowerOfTwo}
 use Rattle.space_core.specs.declared.tree.Summary.{Summary}
-use Rattle.space_core.specs.CellRuns.{length-put_run}
+use Rattle.space_core.proofs.CellRuns.{length-put_run}
 use Rattle.space_core.specs.Memory.{most_cells}
 use Rattle.space_core.specs.Runs.{put_run}
 use Rattle.space_core.specs.Summaries.{IsFree, IsLongest, SumsUp}

@@ -8,7 +8,7 @@ use Rattle.std.proofs.Math.Nat.{pow-suc, mul-le-mul_right}
 use Rattle.std.proofs.Math.Pow.{pow_mono}
 use Rattle.space_core.specs.Runs.{starts_free, first_run}
 use Rattle.std.specs.Int.{IsPowerOfTwo}
-use Rattle.space_core.specs.CellRuns.{passed, found}
+use Rattle.space_core.proofs.CellRuns.{passed, found}
 use Rattle.space_core.specs.declared.tree.Summary.{Summary}
 use Rattle.space_core.specs.Summaries.{IsFree, IsSummary, SumsUp}
 use Rattle.space_core.specs.Trees.{IsNode, IsTree, node_at}

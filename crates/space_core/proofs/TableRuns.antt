@@ -3,7 +3,7 @@ use Rattle.std.proofs.Common.{ℕ, zero, suc, [], ◌∷◌, not, nat_eq, refl, 
 use Rattle.std.proofs.lemmas.Bool.{cases_lt}
 use Rattle.std.proofs.lemmas.List.{length-replicate}
 use Rattle.space_core.specs.Cells.{is_aligned_cell}
-use Rattle.space_core.specs.CellRuns.{row, length-put_run, length-row}
+use Rattle.space_core.proofs.CellRuns.{row, length-put_run, length-row}
 use Rattle.space_core.specs.Memory.{most_cells}
 use Rattle.space_core.specs.Runs.{first_run, put_run}
 use Rattle.space_core.specs.Summaries.{IsFree}

@@ -1,4 +1,3 @@
-pub mod CellRuns
 pub mod Cells
 pub mod Held
 pub mod Leaf
@@ -8,4 +7,3 @@ pub mod Summaries
 pub mod Tables
 pub mod Trees
 pub mod Words
-pub mod Writes

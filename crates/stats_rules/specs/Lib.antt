@@ -1,4 +1,3 @@
 pub mod Counting
-pub mod StatsLawful
 pub mod StatsMeanings
 pub mod StatsRules

@@ -1,4 +1,4 @@
-use Rattle.affix_rules.specs.AffixLawful.{affix_is_regular, affix_is_lawful}
+use Rattle.affix_rules.proofs.AffixLawful.{affix_is_regular, affix_is_lawful}
 use Rattle.affix_rules.proofs.affix_is_lawful.Goals as goal
 
 pub returns-clause-regular : goal.returns-clause-regular

@@ -1,4 +1,4 @@
-use Rattle.affix_rules.specs.AffixLawful.{length_stands_before, affixes_by_bytes}
+use Rattle.affix_rules.proofs.AffixLawful.{length_stands_before, affixes_by_bytes}
 use Rattle.affix_rules.proofs.bytes_round_blocks.Goals as goal
 
 pub returns-clause-length : goal.returns-clause-length

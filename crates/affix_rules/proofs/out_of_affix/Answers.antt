@@ -1,4 +1,4 @@
-use Rattle.affix_rules.specs.AffixLawful.{out_of_affix, affix_hands_all_down}
+use Rattle.affix_rules.proofs.AffixLawful.{out_of_affix, affix_hands_all_down}
 use Rattle.affix_rules.proofs.out_of_affix.Goals as goal
 
 pub returns-clause-out : goal.returns-clause-out

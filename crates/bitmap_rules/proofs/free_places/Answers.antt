@@ -1,4 +1,4 @@
-use Rattle.bitmap_rules.specs.BitmapPlaces.{bitmap_place_is_least, free_place_is_least, no_bitmap_place, no_free_place, units_free_by_bytes}
+use Rattle.bitmap_rules.proofs.BitmapPlaces.{bitmap_place_is_least, free_place_is_least, no_bitmap_place, no_free_place, units_free_by_bytes}
 use Rattle.bitmap_rules.proofs.free_places.Goals as goal
 
 pub returns-clause-bytes : goal.returns-clause-bytes

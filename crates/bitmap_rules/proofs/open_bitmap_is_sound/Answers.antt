@@ -1,4 +1,4 @@
-use Rattle.bitmap_rules.specs.BitmapParts.{open_bitmap_has_image, open_bitmap_is_sound}
+use Rattle.bitmap_rules.proofs.BitmapParts.{open_bitmap_has_image, open_bitmap_is_sound}
 use Rattle.bitmap_rules.proofs.open_bitmap_is_sound.Goals as goal
 
 pub returns-clause-sound : goal.returns-clause-sound

@@ -1,5 +1,5 @@
-use Rattle.free_list_rules.specs.CacheChains.{chain_is_read}
-use Rattle.free_list_rules.specs.CacheWalk.{chain_is_walked}
+use Rattle.free_list_rules.proofs.CacheChains.{chain_is_read}
+use Rattle.free_list_rules.proofs.CacheWalk.{chain_is_walked}
 use Rattle.free_list_rules.proofs.chain_of_cached_blocks.Goals as goal
 
 pub returns-clause-read : goal.returns-clause-read

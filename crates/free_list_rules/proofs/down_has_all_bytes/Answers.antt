@@ -1,4 +1,4 @@
-use Rattle.free_list_rules.specs.CacheParts.{down_has_all_bytes}
+use Rattle.free_list_rules.proofs.CacheParts.{down_has_all_bytes}
 use Rattle.free_list_rules.proofs.down_has_all_bytes.Goals as goal
 
 pub returns : goal.returns

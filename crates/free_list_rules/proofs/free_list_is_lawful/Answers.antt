@@ -1,5 +1,5 @@
-use Rattle.free_list_rules.specs.FreeListRegular.{free_list-regular}
-use Rattle.free_list_rules.specs.FreeListLawful.{free_list-lawful}
+use Rattle.free_list_rules.proofs.FreeListRegular.{free_list-regular}
+use Rattle.free_list_rules.proofs.FreeListLawful.{free_list-lawful}
 use Rattle.free_list_rules.proofs.free_list_is_lawful.Goals as goal
 
 pub returns-clause-regular : goal.returns-clause-regular

@@ -1,4 +1,4 @@
-use Rattle.free_list_rules.specs.CacheImage.{image-free_list, free_list-image}
+use Rattle.free_list_rules.proofs.CacheImage.{image-free_list, free_list-image}
 use Rattle.free_list_rules.proofs.image_of_free_list.Goals as goal
 
 pub returns : goal.returns

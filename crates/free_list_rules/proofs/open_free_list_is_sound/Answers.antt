@@ -1,4 +1,4 @@
-use Rattle.free_list_rules.specs.CacheParts.{cache-opened, free_list-settled}
+use Rattle.free_list_rules.proofs.CacheParts.{cache-opened, free_list-settled}
 use Rattle.free_list_rules.proofs.open_free_list_is_sound.Goals as goal
 
 pub returns : goal.returns

@@ -1,4 +1,4 @@
-use Rattle.free_list_rules.specs.CacheParts.{out-free_list, free_list-out}
+use Rattle.free_list_rules.proofs.CacheParts.{out-free_list, free_list-out}
 use Rattle.free_list_rules.proofs.out_of_free_list.Goals as goal
 
 pub returns : goal.returns

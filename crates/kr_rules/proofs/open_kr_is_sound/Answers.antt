@@ -1,4 +1,4 @@
-use Rattle.kr_rules.specs.KrParts.{open_kr_has_image, open_kr_is_sound}
+use Rattle.kr_rules.proofs.KrParts.{open_kr_has_image, open_kr_is_sound}
 use Rattle.kr_rules.proofs.open_kr_is_sound.Goals as goal
 
 pub returns-clause-sound : goal.returns-clause-sound

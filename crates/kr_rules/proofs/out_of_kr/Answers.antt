@@ -1,4 +1,4 @@
-use Rattle.kr_rules.specs.KrParts.{out_of_kr}
+use Rattle.kr_rules.proofs.KrParts.{out_of_kr}
 use Rattle.kr_rules.proofs.out_of_kr.Goals as goal
 
 pub returns : goal.returns

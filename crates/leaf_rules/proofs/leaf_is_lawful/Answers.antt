@@ -1,5 +1,5 @@
-use Rattle.leaf_rules.specs.MemLawful.{mem_is_lawful}
-use Rattle.leaf_rules.specs.MemRegular.{mem_is_regular}
+use Rattle.leaf_rules.proofs.MemLawful.{mem_is_lawful}
+use Rattle.leaf_rules.proofs.MemRegular.{mem_is_regular}
 use Rattle.leaf_rules.proofs.leaf_is_lawful.Goals as goal
 
 pub returns-clause-regular : goal.returns-clause-regular

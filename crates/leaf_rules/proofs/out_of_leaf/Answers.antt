@@ -1,4 +1,4 @@
-use Rattle.leaf_rules.specs.MemLawful.{out_of_leaf}
+use Rattle.leaf_rules.proofs.MemLawful.{out_of_leaf}
 use Rattle.leaf_rules.proofs.out_of_leaf.Goals as goal
 
 pub returns : goal.returns

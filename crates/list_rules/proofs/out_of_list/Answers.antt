@@ -1,4 +1,4 @@
-use Rattle.list_rules.specs.ListOut.{out_of_list}
+use Rattle.list_rules.proofs.ListOut.{out_of_list}
 use Rattle.list_rules.proofs.out_of_list.Goals as goal
 
 pub returns : goal.returns

@@ -1,4 +1,4 @@
-use Rattle.quantize_rules.specs.QuantizeLawful.{out_of_quantize, quantize_hands_all_down}
+use Rattle.quantize_rules.proofs.QuantizeLawful.{out_of_quantize, quantize_hands_all_down}
 use Rattle.quantize_rules.proofs.out_of_quantize.Goals as goal
 
 pub returns-clause-out : goal.returns-clause-out

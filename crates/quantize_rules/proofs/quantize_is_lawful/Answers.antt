@@ -1,4 +1,4 @@
-use Rattle.quantize_rules.specs.QuantizeLawful.{quantize_is_regular, quantize_is_lawful}
+use Rattle.quantize_rules.proofs.QuantizeLawful.{quantize_is_regular, quantize_is_lawful}
 use Rattle.quantize_rules.proofs.quantize_is_lawful.Goals as goal
 
 pub returns-clause-regular : goal.returns-clause-regular

@@ -1,4 +1,4 @@
-use Rattle.quota_rules.specs.QuotaLawful.{out_of_quota, quota_counts_within}
+use Rattle.quota_rules.proofs.QuotaLawful.{out_of_quota, quota_counts_within}
 use Rattle.quota_rules.proofs.out_of_quota.Goals as goal
 
 pub returns-clause-out : goal.returns-clause-out

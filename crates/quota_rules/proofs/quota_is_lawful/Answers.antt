@@ -1,4 +1,4 @@
-use Rattle.quota_rules.specs.QuotaLawful.{quota_is_regular, quota_is_lawful}
+use Rattle.quota_rules.proofs.QuotaLawful.{quota_is_regular, quota_is_lawful}
 use Rattle.quota_rules.proofs.quota_is_lawful.Goals as goal
 
 pub returns-clause-regular : goal.returns-clause-regular

@@ -1,5 +1,5 @@
-use Rattle.region_rules.specs.RegionLawful.{region_is_lawful}
-use Rattle.region_rules.specs.RegionRegular.{region_is_regular}
+use Rattle.region_rules.proofs.RegionLawful.{region_is_lawful}
+use Rattle.region_rules.proofs.RegionRegular.{region_is_regular}
 use Rattle.region_rules.proofs.region_is_lawful.Goals as goal
 
 pub returns-clause-regular : goal.returns-clause-regular

@@ -1,4 +1,4 @@
-use Rattle.size_dispatch_rules.specs.BucketsLawful.{bucket_has_its_lengths, has_bucket_for, buckets_hand_all_down}
+use Rattle.size_dispatch_rules.proofs.BucketsLawful.{bucket_has_its_lengths, has_bucket_for, buckets_hand_all_down}
 use Rattle.size_dispatch_rules.proofs.bucket_has_its_lengths.Goals as goal
 
 pub returns-clause-lengths : goal.returns-clause-lengths

@@ -1,4 +1,4 @@
-use Rattle.size_dispatch_rules.specs.BucketsLawful.{buckets_are_regular, buckets_are_lawful}
+use Rattle.size_dispatch_rules.proofs.BucketsLawful.{buckets_are_regular, buckets_are_lawful}
 use Rattle.size_dispatch_rules.proofs.buckets_are_lawful.Goals as goal
 
 pub returns-clause-regular : goal.returns-clause-regular

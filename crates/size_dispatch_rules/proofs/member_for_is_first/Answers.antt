@@ -1,4 +1,4 @@
-use Rattle.size_dispatch_rules.specs.SegregateLawful.{thresholds_are_ascending, member_for_is_first, has_member_for}
+use Rattle.size_dispatch_rules.proofs.SegregateLawful.{thresholds_are_ascending, member_for_is_first, has_member_for}
 use Rattle.size_dispatch_rules.proofs.member_for_is_first.Goals as goal
 
 pub returns-clause-thresholds : goal.returns-clause-thresholds

@@ -1,4 +1,4 @@
-use Rattle.size_dispatch_rules.specs.SegregateLawful.{segregate_is_regular, segregate_is_lawful}
+use Rattle.size_dispatch_rules.proofs.SegregateLawful.{segregate_is_regular, segregate_is_lawful}
 use Rattle.size_dispatch_rules.proofs.segregate_is_lawful.Goals as goal
 
 pub returns-clause-regular : goal.returns-clause-regular

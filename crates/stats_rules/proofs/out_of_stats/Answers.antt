@@ -1,4 +1,4 @@
-use Rattle.stats_rules.specs.StatsLawful.{out_of_stats}
+use Rattle.stats_rules.proofs.StatsLawful.{out_of_stats}
 use Rattle.stats_rules.proofs.out_of_stats.Goals as goal
 
 pub returns : goal.returns

@@ -1,4 +1,4 @@
-use Rattle.stats_rules.specs.StatsLawful.{stats_is_regular, stats_is_lawful}
+use Rattle.stats_rules.proofs.StatsLawful.{stats_is_regular, stats_is_lawful}
 use Rattle.stats_rules.proofs.stats_is_lawful.Goals as goal
 
 pub returns-clause-regular : goal.returns-clause-regular

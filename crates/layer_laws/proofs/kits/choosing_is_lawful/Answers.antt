@@ -1,5 +1,5 @@
-use Rattle.layer_laws.specs.ChoosingPlacing.{choosing-lawful}
-use Rattle.layer_laws.specs.ChoosingRegular.{choosing-regular}
+use Rattle.layer_laws.proofs.ChoosingPlacing.{choosing-lawful}
+use Rattle.layer_laws.proofs.ChoosingRegular.{choosing-regular}
 use Rattle.layer_laws.proofs.kits.choosing_is_lawful.Goals as goal
 
 pub returns-clause-regular : goal.returns-clause-regular

@@ -1,5 +1,5 @@
-use Rattle.layer_laws.specs.HandingLawful.{hand-lawful}
-use Rattle.layer_laws.specs.HandingRegular.{hand-regular}
+use Rattle.layer_laws.proofs.HandingLawful.{hand-lawful}
+use Rattle.layer_laws.proofs.HandingRegular.{hand-regular}
 use Rattle.layer_laws.proofs.kits.handing_is_lawful.Goals as goal
 
 pub returns-clause-regular : goal.returns-clause-regular

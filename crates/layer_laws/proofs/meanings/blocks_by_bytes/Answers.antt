@@ -1,4 +1,4 @@
-use Rattle.layer_laws.specs.BlockLaws.{lies_in_by_bytes, apart_by_bytes}
+use Rattle.layer_laws.proofs.BlockLaws.{lies_in_by_bytes, apart_by_bytes}
 use Rattle.layer_laws.proofs.meanings.blocks_by_bytes.Goals as goal
 
 pub returns-clause-lies_in : goal.returns-clause-lies_in

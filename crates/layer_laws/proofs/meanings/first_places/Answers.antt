@@ -1,4 +1,4 @@
-use Rattle.layer_laws.specs.FirstPlaces.{first_place_is_first, no_first_place}
+use Rattle.layer_laws.proofs.FirstPlaces.{first_place_is_first, no_first_place}
 use Rattle.layer_laws.proofs.meanings.first_places.Goals as goal
 
 pub returns-clause-found : goal.returns-clause-found

@@ -1,5 +1,5 @@
-use Rattle.layer_laws.specs.CellBytes.{has_tag_by_bytes}
-use Rattle.layer_laws.specs.CellRooms.{least_cells_are_least, no_cells}
+use Rattle.layer_laws.proofs.CellBytes.{has_tag_by_bytes}
+use Rattle.layer_laws.proofs.CellRooms.{least_cells_are_least, no_cells}
 use Rattle.layer_laws.proofs.meanings.least_rooms.Goals as goal
 
 pub returns-clause-found : goal.returns-clause-found

@@ -1,5 +1,5 @@
-use Rattle.layer_laws.specs.RunWrites.{units_are_put, numbers_are_put, free_count_counts}
-use Rattle.layer_laws.specs.FirstRuns.{free_runs_are_free, taken_runs_are_taken, free_cells_are_untagged, tagged_cells_have_the_tag, first_run_is_first, no_first_run}
+use Rattle.layer_laws.proofs.RunWrites.{units_are_put, numbers_are_put, free_count_counts}
+use Rattle.layer_laws.proofs.FirstRuns.{free_runs_are_free, taken_runs_are_taken, free_cells_are_untagged, tagged_cells_have_the_tag, first_run_is_first, no_first_run}
 use Rattle.layer_laws.proofs.meanings.runs_of_units.Goals as goal
 
 pub returns-clause-free : goal.returns-clause-free

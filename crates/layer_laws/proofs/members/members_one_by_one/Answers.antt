@@ -1,4 +1,4 @@
-use Rattle.layer_laws.specs.EachMembers.{members_offer_what_each_offers, alignment_is_least}
+use Rattle.layer_laws.proofs.EachMembers.{members_offer_what_each_offers, alignment_is_least}
 use Rattle.layer_laws.proofs.members.members_one_by_one.Goals as goal
 
 pub returns-clause-offers : goal.returns-clause-offers

@@ -1,6 +1,6 @@
 use Rattle.layer_rules.specs.NullRules.{null_rules}
 use Rattle.std.proofs.Common.{refl}
-use Rattle.layer_laws.specs.NullLawful.{null-regular, null-lawful}
+use Rattle.layer_laws.proofs.NullLawful.{null-regular, null-lawful}
 use Rattle.layer_laws.proofs.members.null_is_lawful.Goals as goal
 
 pub returns-clause-regular : goal.returns-clause-regular

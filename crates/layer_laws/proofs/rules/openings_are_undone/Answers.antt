@@ -1,4 +1,4 @@
-use Rattle.layer_laws.specs.TornDown.{opened-torn_down, asked-torn_down, asked_at-torn_down, closed-again}
+use Rattle.layer_laws.proofs.TornDown.{opened-torn_down, asked-torn_down, asked_at-torn_down, closed-again}
 use Rattle.layer_laws.proofs.rules.openings_are_undone.Goals as goal
 
 pub returns-clause-opened : goal.returns-clause-opened

@@ -1,4 +1,4 @@
-use Rattle.layer_laws.specs.ReadingNoBytes.{holds-reads_no_bytes, route-reads_no_bytes, routed-reads_no_bytes, extent-reads_no_bytes, asked_along-reads_no_bytes, owns-reads_no_bytes, owns-changes_by_no_bytes}
+use Rattle.layer_laws.proofs.ReadingNoBytes.{holds-reads_no_bytes, route-reads_no_bytes, routed-reads_no_bytes, extent-reads_no_bytes, asked_along-reads_no_bytes, owns-reads_no_bytes, owns-changes_by_no_bytes}
 use Rattle.layer_laws.proofs.rules.reads_no_bytes.Goals as goal
 
 pub returns-clause-holds : goal.returns-clause-holds

@@ -1,4 +1,4 @@
-use Rattle.layer_laws.specs.FurtherLaws.{aligned_allocated-keeps}
+use Rattle.layer_laws.proofs.FurtherLaws.{aligned_allocated-keeps}
 use Rattle.layer_laws.proofs.standing.aligned_allocate_keeps.Goals as goal
 
 pub returns : goal.returns

@@ -1,4 +1,4 @@
-use Rattle.layer_laws.specs.StandingLaws.{allocated-stands, allocated-gives, allocated-keeps_out, allocated-keeps_extents, allocated-keeps_routes}
+use Rattle.layer_laws.proofs.StandingLaws.{allocated-stands, allocated-gives, allocated-keeps_out, allocated-keeps_extents, allocated-keeps_routes, allocated-finds}
 use Rattle.layer_laws.proofs.standing.allocate_keeps.Goals as goal
 
 pub returns-clause-stands : goal.returns-clause-stands
@@ -15,3 +15,6 @@ returns-clause-extents c = allocated-keeps_extents
 
 pub returns-clause-routes : goal.returns-clause-routes
 returns-clause-routes c = allocated-keeps_routes
+
+pub returns-clause-found : goal.returns-clause-found
+returns-clause-found c = allocated-finds

@@ -1,5 +1,5 @@
-use Rattle.layer_laws.specs.StandingLaws.{allocated-changes_own, deallocated-changes_own, set_up-changes_own, torn-changes_own, changes-in_turn}
-use Rattle.layer_laws.specs.Placement.{write-changes_own, member-changes_own}
+use Rattle.layer_laws.proofs.StandingLaws.{allocated-changes_own, deallocated-changes_own, set_up-changes_own, torn-changes_own, changes-in_turn}
+use Rattle.layer_laws.proofs.Placement.{write-changes_own, member-changes_own}
 use Rattle.layer_laws.proofs.standing.calls_change_own.Goals as goal
 
 pub returns-clause-allocate : goal.returns-clause-allocate

@@ -1,4 +1,4 @@
-use Rattle.layer_laws.specs.StandingLaws.{all_deallocated-keeps}
+use Rattle.layer_laws.proofs.StandingLaws.{all_deallocated-keeps}
 use Rattle.layer_laws.proofs.standing.deallocate_all_keeps.Goals as goal
 
 pub returns : goal.returns

@@ -1,4 +1,4 @@
-use Rattle.layer_laws.specs.StandingLaws.{deallocated-stands, deallocated-keeps_out, deallocated-keeps_extents, deallocated-keeps_routes}
+use Rattle.layer_laws.proofs.StandingLaws.{deallocated-stands, deallocated-keeps_out, deallocated-keeps_extents, deallocated-keeps_routes}
 use Rattle.layer_laws.proofs.standing.deallocate_keeps.Goals as goal
 
 pub returns-clause-stands : goal.returns-clause-stands

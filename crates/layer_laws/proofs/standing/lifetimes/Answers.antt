@@ -1,4 +1,4 @@
-use Rattle.layer_laws.specs.StandingLaws.{set_up-stands, torn-stands}
+use Rattle.layer_laws.proofs.StandingLaws.{set_up-stands, torn-stands}
 use Rattle.layer_laws.proofs.standing.lifetimes.Goals as goal
 
 pub returns-clause-set_up : goal.returns-clause-set_up

@@ -1,4 +1,4 @@
-use Rattle.layer_laws.specs.Placement.{others-stand, others-keep_state, others-keep_out, others-keep_bytes, others-keep_clean, others-keep_marked}
+use Rattle.layer_laws.proofs.Placement.{others-stand, others-keep_state, others-keep_out, others-keep_bytes, others-keep_clean, others-keep_marked}
 use Rattle.layer_laws.proofs.standing.others_stand.Goals as goal
 
 pub returns-clause-stands : goal.returns-clause-stands

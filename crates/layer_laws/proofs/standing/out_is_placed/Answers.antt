@@ -1,5 +1,5 @@
-use Rattle.layer_laws.specs.StandingLaws.{out-in_space}
-use Rattle.layer_laws.specs.Placement.{out-placed, apart-share_no_byte, out-routed, out-aligned, open-as_fields, out-set_up}
+use Rattle.layer_laws.proofs.StandingLaws.{out-in_space}
+use Rattle.layer_laws.proofs.Placement.{out-placed, apart-share_no_byte, out-routed, route-short, out-aligned, open-as_fields, out-set_up}
 use Rattle.layer_laws.proofs.standing.out_is_placed.Goals as goal
 
 pub returns-clause-extent : goal.returns-clause-extent
@@ -13,6 +13,9 @@ returns-clause-apart c = apart-share_no_byte
 
 pub returns-clause-routed : goal.returns-clause-routed
 returns-clause-routed c = out-routed
+
+pub returns-clause-route : goal.returns-clause-route
+returns-clause-route c = route-short
 
 pub returns-clause-aligned : goal.returns-clause-aligned
 returns-clause-aligned c = out-aligned

@@ -1,4 +1,4 @@
-use Rattle.layer_laws.specs.FurtherLaws.{owned-keeps}
+use Rattle.layer_laws.proofs.FurtherLaws.{owned-keeps}
 use Rattle.layer_laws.proofs.standing.owns_keeps.Goals as goal
 
 pub returns : goal.returns

@@ -1,4 +1,4 @@
-use Rattle.layer_laws.specs.StandingReallocated.{reallocated-keeps}
+use Rattle.layer_laws.proofs.StandingReallocated.{reallocated-keeps}
 use Rattle.layer_laws.proofs.standing.reallocate_keeps.Goals as goal
 
 pub returns : goal.returns

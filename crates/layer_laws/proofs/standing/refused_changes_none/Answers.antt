@@ -1,4 +1,4 @@
-use Rattle.layer_laws.specs.FurtherLaws.{refused-expand, refused-reallocate}
+use Rattle.layer_laws.proofs.FurtherLaws.{refused-expand, refused-reallocate}
 use Rattle.layer_laws.proofs.standing.refused_changes_none.Goals as goal
 
 pub returns-clause-expand : goal.returns-clause-expand

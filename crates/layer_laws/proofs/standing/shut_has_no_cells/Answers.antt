@@ -1,4 +1,4 @@
-use Rattle.layer_laws.specs.StandingLaws.{shut-has_no_cells, shut-stands_again}
+use Rattle.layer_laws.proofs.StandingLaws.{shut-has_no_cells, shut-stands_again}
 use Rattle.layer_laws.proofs.standing.shut_has_no_cells.Goals as goal
 
 pub returns-clause-none : goal.returns-clause-none

@@ -1,4 +1,4 @@
-use Rattle.layer_laws.specs.Placement.{write-keeps}
+use Rattle.layer_laws.proofs.Placement.{write-keeps}
 use Rattle.layer_laws.proofs.standing.write_keeps.Goals as goal
 
 pub returns : goal.returns

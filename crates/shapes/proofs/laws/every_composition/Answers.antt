@@ -1,4 +1,4 @@
-use Rattle.shapes.specs.ShapeLaws.{made_of}
+use Rattle.shapes.proofs.ShapeLaws.{made_of}
 use Rattle.shapes.proofs.laws.every_composition.Goals as goal
 
 pub returns : goal.returns

@@ -1,4 +1,4 @@
-use Rattle.shapes.specs.ShapeLaws.{regular_of, lawful_of}
+use Rattle.shapes.proofs.ShapeLaws.{regular_of, lawful_of}
 use Rattle.shapes.proofs.laws.every_proper_shape.Goals as goal
 
 pub returns-clause-regular : goal.returns-clause-regular

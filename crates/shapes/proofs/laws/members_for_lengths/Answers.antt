@@ -1,4 +1,4 @@
-use Rattle.shapes.specs.ProperParts.{proper_has_member, proper_has_bucket}
+use Rattle.shapes.proofs.ProperParts.{proper_has_member, proper_has_bucket}
 use Rattle.shapes.proofs.laws.members_for_lengths.Goals as goal
 
 pub returns-clause-member : goal.returns-clause-member

@@ -1,4 +1,4 @@
-use Rattle.shapes.specs.ProperParts.{rules_of_members, proper_members, owning_members}
+use Rattle.shapes.proofs.ProperParts.{rules_of_members, proper_members, owning_members}
 use Rattle.shapes.proofs.laws.members_one_by_one.Goals as goal
 
 pub returns-clause-rules : goal.returns-clause-rules

@@ -1,4 +1,4 @@
-use Rattle.size_round.specs.PowerLaws.{powers_pass, rounded_is_least_power, part_is_greatest}
+use Rattle.size_round.proofs.PowerLaws.{powers_pass, rounded_is_least_power, part_is_greatest}
 use Rattle.size_round.proofs.laws.powers_of_two.Goals as goal
 
 pub returns-clause-test : goal.returns-clause-test

@@ -1,4 +1,4 @@
-use Rattle.size_round.specs.KindLaws.{rounded_is_enough, rounded_is_monotone, rounded_is_bounded}
+use Rattle.size_round.proofs.KindLaws.{rounded_is_enough, rounded_is_monotone, rounded_is_bounded}
 use Rattle.size_round.proofs.laws.proper_roundings.Goals as goal
 
 pub returns-clause-enough : goal.returns-clause-enough

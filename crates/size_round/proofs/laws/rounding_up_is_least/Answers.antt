@@ -1,4 +1,4 @@
-use Rattle.size_round.specs.UpLeast.{up_is_least, ceil_div_is_least}
+use Rattle.size_round.proofs.UpLeast.{up_is_least, ceil_div_is_least}
 use Rattle.size_round.proofs.laws.rounding_up_is_least.Goals as goal
 
 pub returns-clause-up : goal.returns-clause-up

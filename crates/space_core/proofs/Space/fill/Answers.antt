@@ -1,6 +1,6 @@
 use Rattle.std.proofs.Common.{arith}
 use Rattle.std.proofs.lemmas.Grind.{common_steps}
-use Rattle.space_core.specs.CellRuns.{put_run-nil, length-put_run}
+use Rattle.space_core.proofs.CellRuns.{put_run-nil, length-put_run}
 use Rattle.space_core.proofs.Space.fill.Goals as goal
 use Rattle.space_core.proofs.Space.fill.Goals.{in-Open, in_default}
 

@@ -1,5 +1,5 @@
 use Rattle.std.proofs.Common.{arith}
-use Rattle.space_core.specs.CellRuns.{tagged-inside}
+use Rattle.space_core.proofs.CellRuns.{tagged-inside}
 use Rattle.space_core.proofs.Space.give.Goals as goal
 
 pub put_tag-requires : goal.put_tag-requires

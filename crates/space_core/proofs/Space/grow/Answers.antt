@@ -1,6 +1,6 @@
 use Rattle.std.proofs.Common.{◌≡◌, ◌+◌, ◌-◌, ◌/◌, ◌%◌, arith, sym, ◌∙◌}
 use Rattle.space_core.specs.Cells.{cell_behind, more_cells}
-use Rattle.space_core.specs.CellRuns.{behind-inside}
+use Rattle.space_core.proofs.CellRuns.{behind-inside}
 use Rattle.space_core.proofs.Space.grow.Goals as goal
 
 pub put_tag-requires : goal.put_tag-requires

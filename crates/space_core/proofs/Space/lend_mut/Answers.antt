@@ -2,7 +2,7 @@ use Rattle.std.proofs.Common.{ℕ, ◌≡◌, ◌+◌, List, length, take, drop,
 use Rattle.space_core.specs.Held.{held_bytes, held_memory, with_bytes_from}
 use Rattle.space_core.specs.Memory.{Memory}
 use Rattle.space_core.specs.Words.{write_from}
-use Rattle.space_core.specs.Writes.{write_from-nil, write_from-refill}
+use Rattle.space_core.proofs.Writes.{write_from-nil, write_from-refill}
 use Rattle.space_core.specs.declared.store.Store.{Store}
 use Rattle.space_core.specs.declared.store.Store.TheVariants.{Closed, Open}
 use Rattle.space_core.proofs.Space.lend_mut.Goals as goal

@@ -1,7 +1,7 @@
 use Rattle.std.proofs.Common.{ℕ, arith}
 use Rattle.std.proofs.lemmas.Grind.{common_steps}
 use Rattle.space_core.specs.Cells.{tag_cells}
-use Rattle.space_core.specs.CellRuns.{put_run-nil, length-put_run}
+use Rattle.space_core.proofs.CellRuns.{put_run-nil, length-put_run}
 use Rattle.space_core.specs.Held.{held_memory}
 use Rattle.space_core.specs.Memory.{Memory, IsMemory}
 use Rattle.space_core.proofs.Space.put_tag.Goals as goal

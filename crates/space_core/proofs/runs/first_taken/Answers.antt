@@ -1,6 +1,6 @@
 use Rattle.std.proofs.Common.{◌+◌, arith, sym, ◌∙◌}
 use Rattle.std.proofs.lemmas.Bool.Decides.{nat_tests}
-use Rattle.space_core.specs.CellRuns.{free-step, free-end}
+use Rattle.space_core.proofs.CellRuns.{free-step, free-end}
 use Rattle.space_core.proofs.runs.first_taken.Goals as goal
 
 pub loop-cell-preserved : goal.loop-cell-preserved

@@ -1,5 +1,5 @@
 use Rattle.std.proofs.Common.{◌≡◌, ◌+◌, ◌-◌}
-use Rattle.space_core.specs.CellRuns.{row}
+use Rattle.space_core.proofs.CellRuns.{row}
 use Rattle.space_core.specs.Runs.{is_free_run}
 use Rattle.space_core.proofs.runs.first_taken.Given as goal
 

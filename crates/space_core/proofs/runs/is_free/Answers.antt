@@ -1,5 +1,5 @@
 use Rattle.std.proofs.Common.{sym}
-use Rattle.space_core.specs.CellRuns.{not_free-there}
+use Rattle.space_core.proofs.CellRuns.{not_free-there}
 use Rattle.space_core.proofs.runs.is_free.Goals as goal
 
 pub returns-in-Some : goal.returns-in-Some

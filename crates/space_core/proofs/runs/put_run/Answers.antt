@@ -1,5 +1,5 @@
 use Rattle.std.proofs.Common.{◌+◌, arith, sym, ◌∙◌}
-use Rattle.space_core.specs.CellRuns.{put-step, put-end}
+use Rattle.space_core.proofs.CellRuns.{put-step, put-end}
 use Rattle.space_core.proofs.runs.put_run.Goals as goal
 
 pub loop-index-preserved : goal.loop-index-preserved

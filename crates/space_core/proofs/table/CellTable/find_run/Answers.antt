@@ -1,5 +1,5 @@
 use Rattle.std.proofs.Common.{length, ap, sym, ◌∙◌, arith}
-use Rattle.space_core.specs.CellRuns.{length-row}
+use Rattle.space_core.proofs.CellRuns.{length-row}
 use Rattle.space_core.proofs.TableRuns.{told-some, told-none, none-past, search-none, search-some, search-next}
 use Rattle.space_core.proofs.table.CellTable.find_run.Goals as goal
 

@@ -1,5 +1,5 @@
 use Rattle.std.proofs.Common.{◌≡◌, ◌++◌, length, take, drop, ap, arith}
-use Rattle.space_core.specs.CellRuns.{length-put_run}
+use Rattle.space_core.proofs.CellRuns.{length-put_run}
 use Rattle.space_core.specs.Runs.{put_run}
 use Rattle.space_core.proofs.Rows.{whole}
 use Rattle.space_core.proofs.TableRuns.{table-put}

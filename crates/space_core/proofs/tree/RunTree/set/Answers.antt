@@ -1,5 +1,5 @@
 use Rattle.std.proofs.Common.{◌≡◌, ◌++◌, length, not, take, drop, arith, ap, ◌∙◌}
-use Rattle.space_core.specs.CellRuns.{length-put_run}
+use Rattle.space_core.proofs.CellRuns.{length-put_run}
 use Rattle.space_core.specs.Runs.{put_run}
 use Rattle.space_core.proofs.Nodes.{tells-put}
 use Rattle.space_core.proofs.Reading.{tree-put}
