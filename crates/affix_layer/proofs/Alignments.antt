@@ -3,9 +3,9 @@ use Rattle.std.proofs.Common.{◌≡◌, refl, ap, ◌∙◌, ℕ, zero, suc, �
 use Rattle.std.proofs.Math.Nat.{pow-succ'}
 use Rattle.std.proofs.lemmas.Bool.Decides.{nat_tests}
 use Rattle.std.specs.Int.Count.{count_trailing_zeros, under}
-use Rattle.size_round.specs.PowerLaws.{part_is_greatest}
+use Rattle.size_round.proofs.PowerLaws.{part_is_greatest}
 use Rattle.size_round.specs.Sizes.{power_part, is_multiple}
-use Rattle.layer_laws.specs.CellRooms.{multiple_from_rest}
+use Rattle.layer_laws.proofs.CellRooms.{multiple_from_rest}
 use Rattle.affix_rules.specs.AffixRules.{alignment_behind}
 
 pub power_part-most : (h n : ℕ) → 1 ≤ n → n ≤ h → power_part h n ≤ n

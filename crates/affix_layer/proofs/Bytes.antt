@@ -3,20 +3,20 @@ use Rattle.std.proofs.Common.{◌≡◌, refl, sym, ap, ◌∙◌, inl, inr, ◌
 use Rattle.std.proofs.lemmas.List.{ext_get_or, get_or-take, get_or-drop, length-take, length-take-le}
 use Rattle.std.proofs.lemmas.Bool.Decides.{nat_tests}
 use Rattle.std.specs.Int.{to_le_bytes, w64}
-use Rattle.space_core.specs.CellRuns.{length-put_run}
+use Rattle.space_core.proofs.CellRuns.{length-put_run}
 use Rattle.space_core.specs.Memory.{Memory}
 use Rattle.space_core.specs.Runs.{put_run}
 use Rattle.space_core.specs.Words.{put_word, IsCopied}
-use Rattle.space_core.specs.Writes.{length-write_from}
+use Rattle.space_core.proofs.Writes.{length-write_from}
 use Rattle.layer_rules.specs.declared.Block.{Block}
 use Rattle.layer_rules.specs.Blocks.{end_of, is_apart}
-use Rattle.layer_laws.specs.KeptBytes.{IsWordAt-same}
+use Rattle.layer_laws.proofs.KeptBytes.{IsWordAt-same}
 use Rattle.layer_rules.specs.Layering.{KeepsBytes}
 use Rattle.layer_laws.specs.Lawful.{ChangesInside}
 use Rattle.layer_laws.specs.Standing.{Writes}
-use Rattle.layer_laws.specs.Writing.{word-inside, word_at-put_word}
+use Rattle.layer_laws.proofs.Writing.{word-inside, word_at-put_word}
 use Rattle.affix_rules.specs.AffixRules.{affix_down, suffix_byte, has_length, has_affixes}
-use Rattle.affix_rules.specs.AffixLawful.{length_stands_before, affixes-parts, affixes-test}
+use Rattle.affix_rules.proofs.AffixLawful.{length_stands_before, affixes-parts, affixes-test}
 use Rattle.affix_layer.specs.AffixBytes.{length_word, open_len, open_place, CarriesAffixes}
 
 -- ---- ranges

@@ -3,9 +3,9 @@ use Rattle.std.proofs.Common.{refl, ℕ, Bool, true, false}
 use Rattle.space_core.specs.Memory.{Memory}
 use Rattle.layer_rules.specs.declared.Block.{Block}
 use Rattle.layer_rules.specs.Layering.{LayerModel, IsSetUp, IsOutOf, Deallocates}
-use Rattle.layer_laws.specs.HandingCalls.{hand-deallocated}
+use Rattle.layer_laws.proofs.HandingCalls.{hand-deallocated}
 use Rattle.affix_rules.specs.AffixRules.{affix_down, affix_handing, affix_rules}
-use Rattle.affix_rules.specs.AffixLawful.{affix-hands}
+use Rattle.affix_rules.proofs.AffixLawful.{affix-hands}
 use Rattle.layer_laws.specs.HandingModel.{keeps_nothing}
 use Rattle.affix_layer.specs.AffixModel.{affix_model}
 use Rattle.affix_layer.specs.AffixBytes.{KeepsOtherAffixes}

@@ -13,17 +13,17 @@ use Rattle.layer_rules.specs.Handing.{count_expansion, hand_expansion, handing_r
 use Rattle.layer_rules.specs.Layering.{LayerModel, state_of, Stands, IsSetUp, IsOutOf, IsCleanOf, AreApartIn, KeepsBytes, Frames, Stays, Expands}
 use Rattle.layer_rules.specs.Rules.{Rules, longer_if}
 use Rattle.layer_rules.specs.State.{State, nothing, open_with, one_child}
-use Rattle.layer_laws.specs.Basics.{and-fst, and-snd}
-use Rattle.layer_laws.specs.HandingCalls.{frame-open, hand-stays}
-use Rattle.layer_laws.specs.HandingChanges.{hand-expanded}
+use Rattle.layer_laws.proofs.Basics.{and-fst, and-snd}
+use Rattle.layer_laws.proofs.HandingCalls.{frame-open, hand-stays}
+use Rattle.layer_laws.proofs.HandingChanges.{hand-expanded}
 use Rattle.layer_laws.specs.Lawful.{IsMade, ChangesInside}
-use Rattle.layer_laws.specs.Moving.{same-made}
-use Rattle.layer_laws.specs.Placement.{write-keeps, write-changes_own}
+use Rattle.layer_laws.proofs.Moving.{same-made}
+use Rattle.layer_laws.proofs.Placement.{write-keeps, write-changes_own}
 use Rattle.layer_laws.specs.Standing.{Writes, ChangesOwn}
-use Rattle.layer_laws.specs.StandingLaws.{expanded-keeps, changes-in_turn, out-in_space}
-use Rattle.layer_laws.specs.Writing.{write-stays}
+use Rattle.layer_laws.proofs.StandingLaws.{expanded-keeps, changes-in_turn, out-in_space}
+use Rattle.layer_laws.proofs.Writing.{write-stays}
 use Rattle.affix_rules.specs.AffixRules.{affix_down, has_length, has_affixes, affix_handing, affix_rules}
-use Rattle.affix_rules.specs.AffixLawful.{affix-hands}
+use Rattle.affix_rules.proofs.AffixLawful.{affix-hands}
 use Rattle.layer_laws.specs.HandingModel.{keeps_nothing}
 use Rattle.affix_layer.specs.AffixModel.{affix_model}
 use Rattle.affix_layer.specs.AffixBytes.{length_word, CarriesAffixes, KeepsOtherAffixes}

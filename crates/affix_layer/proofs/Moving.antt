@@ -10,14 +10,14 @@ use Rattle.layer_rules.specs.Handing.{handing_rules}
 use Rattle.layer_rules.specs.Rules.{Rules}
 use Rattle.layer_rules.specs.State.{child}
 use Rattle.layer_rules.specs.Layering.{LayerModel, state_of, Stands, IsSetUp, IsOutOf, IsCleanOf, IsMarkedOf, AreApartIn, Stays, Allocates, Deallocates, Expands, ReallocatesBy, MovesBlock, allocated, deallocated, moved}
-use Rattle.layer_laws.specs.Apart.{apart-flip}
-use Rattle.layer_laws.specs.Basics.{and-fst, and-snd}
+use Rattle.layer_laws.proofs.Apart.{apart-flip}
+use Rattle.layer_laws.proofs.Basics.{and-fst, and-snd}
 use Rattle.layer_laws.specs.Lawful.{IsMade}
-use Rattle.layer_laws.specs.Moving.{same-made}
-use Rattle.layer_laws.specs.Placement.{apart-share_no_byte, write-keeps, write-changes_own}
+use Rattle.layer_laws.proofs.Moving.{same-made}
+use Rattle.layer_laws.proofs.Placement.{apart-share_no_byte, write-keeps, write-changes_own}
 use Rattle.layer_laws.specs.Standing.{Writes, ChangesOwn}
-use Rattle.layer_laws.specs.StandingLaws.{framing, allocated-stands, allocated-gives, allocated-keeps_out, allocated-keeps_extents, allocated-changes_own, answered, deallocated-changes_own, expanded-keeps, changes-in_turn}
-use Rattle.layer_laws.specs.Writing.{write-stays}
+use Rattle.layer_laws.proofs.StandingLaws.{framing, allocated-stands, allocated-gives, allocated-keeps_out, allocated-keeps_extents, allocated-changes_own, answered, deallocated-changes_own, expanded-keeps, changes-in_turn}
+use Rattle.layer_laws.proofs.Writing.{write-stays}
 use Rattle.affix_rules.specs.AffixRules.{affix_down, has_length, has_affixes, affix_rules}
 use Rattle.layer_core.specs.declared.Layer.{Ghosts}
 use Rattle.affix_layer.specs.declared.affixing.Affix.{Affix}
@@ -79,13 +79,13 @@ done-ready t t' t'' m k w z b c n r l h u o a x there clean f =
     let gone = t.rules.deallocate b (allocated t m n).state (allocated t m n).cells in
     let e : moved t m b n ≡ answering (λ given. moved_to y.0.block) gone = ap (λ x. elim x as (λ _. After Reallocated) [ None ↦ after unmoved (allocated t m n).state (allocated t m n).cells | Some p ↦ answering (λ given. moved_to p.block) (t.rules.deallocate b (allocated t m n).state (allocated t m n).cells) ]) y.1 in
     let same : deallocated t' w b ≡ gone = ap (λ (e : Rules). e.deallocate b (state_of t' w) w.cells) a.frame.rules ∙ (ap (λ s. t.rules.deallocate b s w.cells) (x.state ∙ a.state) ∙ ap (λ q. t.rules.deallocate b (allocated t m n).state q) (x.cells ∙ a.cells)) in
-    let still = λ (d e : Block) (p : AreApartIn t m d e). let q : AreApartIn t' k d e = record { either = rw (allocated-keeps_extents t t' m k n (Some c) l h u a d, allocated-keeps_extents t t' m k n (Some c) l h u a e) p.either } in q in
+    let still = λ (d : Block) (d_out : IsOutOf t m d) (p : AreApartIn t m b d). let q : AreApartIn t' k b d = record { either = rw (allocated-keeps_extents t t' m k n (Some c) l h u a b o, allocated-keeps_extents t t' m k n (Some c) l h u a d d_out) p.either } in q in
     let b_out = allocated-keeps_out t t' m k n (Some c) l h u a b o in
     let three = subst (λ e. ChangesOwn e w z) a.frame.rules (deallocated-changes_own t' t'' w z b r l' x.stands (x.out b b_out) f) in
     let two = subst (λ e. ChangesOwn e k w) a.frame.rules x.changes_own in
     let ch = changes-in_turn t.rules m k z (allocated-changes_own t t' m k n (Some c) l h u a) (changes-in_turn t.rules k w z two three) in
-    let near = apart-flip t.rules (state_of t m) c b (g.fresh b o) in
-    let kept = f.others c (x.out c g.out) (apart-same t' k w b c x.state (still b c (record { either = near.either }))) in
+    let near = apart-flip t'.rules (state_of t' k) c b (g.fresh b o) in
+    let kept = f.others c (x.out c g.out) (apart-same t' k w b c x.state near) in
     let first = a.others b o in
     subst (λ rule. ReallocatesBy rule t t'' m z b c true) (sym e)
     (record {
@@ -102,8 +102,8 @@ done-ready t t' t'' m k w z b c n r l h u o a x there clean f =
       };
       others = λ d d_out far.
           let p = allocated-keeps_out t t' m k n (Some c) l h u a d d_out in
-          let one = then-stays t t' t' m k w d (a.others d d_out) (x.others d p (still c d (let q = g.fresh d d_out in record { either = q.either }))) in
-          then-stays t t' t'' m w z d one (f.others d (x.out d p) (apart-same t' k w b d x.state (still b d (far refl))));
+          let one = then-stays t t' t' m k w d (a.others d d_out) (x.others d p (g.fresh d d_out)) in
+          then-stays t t' t'' m w z d one (f.others d (x.out d p) (apart-same t' k w b d x.state (still d d_out (far refl))));
     })
 
 -- ---- an affix whose new block was just served
@@ -136,9 +136,8 @@ served-beside prefix suffix n u s t m k b c l h p o z a here_of =
     let stands = allocated-stands s T m k n (Some c) l h p a in
     let here = here_of stands in
     let b_out = allocated-keeps_out s T m k n (Some c) l h p a b o in
-    let far = g.fresh b o in
-    let near : AreApartIn T k c b = record { either = rw (allocated-keeps_extents s T m k n (Some c) l h p a c, allocated-keeps_extents s T m k n (Some c) l h p a b) far.either } in
-    let flip = apart-flip T.rules (state_of T k) c b (record { either = near.either }) in
+    let near = g.fresh b o in
+    let flip = apart-flip T.rules (state_of T k) c b near in
     record {
       here = here;
       old_out = b_out;
@@ -237,8 +236,8 @@ moved-round prefix suffix n u s t t'' m k v w z b c r l h p o x d d_out far =
     let g = allocated-gives s T m k n c l h p x.serves in
     let y = over-ready prefix suffix n u t k v w b c l' x.beside g.len x.over in
     let d_here = allocated-keeps_out s T m k n (Some c) l h p x.serves d d_out in
-    let still = λ (e : Block) (a : AreApartIn s m e d). let w : AreApartIn T k e d = record { either = rw (allocated-keeps_extents s T m k n (Some c) l h p x.serves e, allocated-keeps_extents s T m k n (Some c) l h p x.serves d) a.either } in w in
-    let new_far = still c (g.fresh d d_out) in
+    let still = λ (a : AreApartIn s m b d). let w : AreApartIn T k b d = record { either = rw (allocated-keeps_extents s T m k n (Some c) l h p x.serves b o, allocated-keeps_extents s T m k n (Some c) l h p x.serves d d_out) a.either } in w in
+    let new_far = g.fresh d d_out in
     let one = copied-ready prefix suffix n u t k v b c l' x.beside g.len x.over.copied x.over.same in
     let here = still-here prefix suffix u t k v x.beside.here one.stands in
     let two = round-written prefix suffix u t v w c here (one.out c x.beside.new_out) x.over.inside in
@@ -246,7 +245,7 @@ moved-round prefix suffix n u s t t'' m k v w z b c r l h p o x d d_out far =
     then-carries prefix suffix m.bytes k.bytes z.bytes d d d (x.served_around d d_out)
     (then-carries prefix suffix k.bytes v.bytes z.bytes d d d (copied-round prefix suffix (min n b.len) b.place t k v d c f x.beside.new.fits (below-apart prefix suffix u t k d c x.beside.here d_here x.beside.new_out (flip-in T k c d new_far)) (omega (arith, g.len)) x.over.copied)
     (then-carries prefix suffix v.bytes w.bytes z.bytes d d d (two.around d (one.out d d_here) (λ q. apart-same T k v c d one.state new_far))
-    (x.given_around d (y.out d d_here) (λ q. apart-same T k w b d y.state (still b (far refl))))))
+    (x.given_around d (y.out d d_here) (λ q. apart-same T k w b d y.state (still (far refl))))))
 
 -- the new block is clean where the old one was
 clean-moved : (prefix suffix : ℕ) (u : Bool) (t : LayerModel) (m w : Memory) (b c : Block) → prefix ≤ b.place → prefix ≤ c.place → CarriesAffixes prefix suffix m.bytes w.bytes b c → IsMarkedOf (affix_model prefix suffix u t) w c → has_affixes prefix suffix b m.bytes ≡ true → IsCleanOf (affix_model prefix suffix u t) w c

@@ -4,22 +4,22 @@ use Rattle.std.proofs.lemmas.Bool.{and_from}
 use Rattle.space_core.specs.Cells.{Cells}
 use Rattle.space_core.specs.Memory.{Memory}
 use Rattle.space_core.specs.Words.{write_from}
-use Rattle.space_core.specs.Writes.{length-write_from}
+use Rattle.space_core.proofs.Writes.{length-write_from}
 use Rattle.layer_rules.specs.declared.Block.{Block}
 use Rattle.layer_rules.specs.Blocks.{end_of}
 use Rattle.layer_rules.specs.Handing.{handing_rules}
 use Rattle.layer_rules.specs.Layering.{LayerModel, state_of, IsOutOf, AreApartIn, Frames, Stays}
 use Rattle.layer_rules.specs.Rules.{Rules}
 use Rattle.layer_rules.specs.State.{nothing, open_with, one_child}
-use Rattle.layer_laws.specs.Basics.{and-fst, and-snd}
-use Rattle.layer_laws.specs.HandingCalls.{frame-open, hand-stays}
-use Rattle.layer_laws.specs.KeptBytes.{IsWordAt-same}
-use Rattle.layer_laws.specs.Placement.{write-keeps}
+use Rattle.layer_laws.proofs.Basics.{and-fst, and-snd}
+use Rattle.layer_laws.proofs.HandingCalls.{frame-open, hand-stays}
+use Rattle.layer_laws.proofs.KeptBytes.{IsWordAt-same}
+use Rattle.layer_laws.proofs.Placement.{write-keeps}
 use Rattle.layer_laws.specs.Standing.{Writes}
-use Rattle.layer_laws.specs.StandingLaws.{sound-again, out-again, changes-from}
-use Rattle.layer_laws.specs.Writing.{write_from-below, write_from-above, write-frames, write-stays}
+use Rattle.layer_laws.proofs.StandingLaws.{sound-again, out-again, changes-from}
+use Rattle.layer_laws.proofs.Writing.{write_from-below, write_from-above, write-frames, write-stays}
 use Rattle.affix_rules.specs.AffixRules.{affix_down, has_length, affix_handing, affix_rules}
-use Rattle.affix_rules.specs.AffixLawful.{affix-hands, length_stands_before}
+use Rattle.affix_rules.proofs.AffixLawful.{affix-hands, length_stands_before}
 use Rattle.layer_laws.specs.HandingModel.{keeps_nothing}
 use Rattle.affix_layer.specs.AffixModel.{affix_model}
 use Rattle.affix_layer.specs.AffixBytes.{open_place}

@@ -5,25 +5,21 @@ use Rattle.space_core.specs.Memory.{Memory}
 use Rattle.layer_rules.specs.declared.Block.{Block}
 use Rattle.layer_rules.specs.Blocks.{block}
 use Rattle.layer_rules.specs.Layering.{LayerModel, Stands, IsSetUp, IsCleanOf, AreApartIn, Allocates}
-use Rattle.layer_laws.specs.HandingCalls.{hand-allocated}
+use Rattle.layer_laws.proofs.HandingCalls.{hand-allocated}
 use Rattle.layer_laws.specs.Lawful.{IsMade}
-use Rattle.layer_laws.specs.Moving.{same-made}
-use Rattle.layer_laws.specs.Placement.{write-keeps, write-changes_own}
+use Rattle.layer_laws.proofs.Moving.{same-made}
+use Rattle.layer_laws.proofs.Placement.{write-keeps, write-changes_own}
 use Rattle.layer_laws.specs.Standing.{Writes, ChangesOwn}
-use Rattle.layer_laws.specs.StandingLaws.{allocated-stands, allocated-gives, allocated-keeps_out, allocated-keeps_extents, allocated-changes_own, changes-in_turn, out-in_space}
-use Rattle.layer_laws.specs.Writing.{write-stays}
+use Rattle.layer_laws.proofs.StandingLaws.{allocated-stands, allocated-gives, allocated-keeps_out, allocated-changes_own, changes-in_turn, out-in_space}
+use Rattle.layer_laws.proofs.Writing.{write-stays}
 use Rattle.affix_rules.specs.AffixRules.{affix_down, affix_shown, has_affixes, affix_handing, affix_rules}
-use Rattle.affix_rules.specs.AffixLawful.{affix-hands}
+use Rattle.affix_rules.proofs.AffixLawful.{affix-hands}
 use Rattle.layer_laws.specs.HandingModel.{keeps_nothing}
 use Rattle.affix_layer.specs.AffixModel.{affix_model}
 use Rattle.affix_layer.specs.AffixBytes.{KeepsAffixes}
 use Rattle.affix_layer.proofs.Standing.{IsHere, parent-stands, open-set, affixed-of, carried-still, then-stays}
 
 -- ---- a block that was just served is written into
-
-still-apart : (t t' : LayerModel) (m k : Memory) (n : ℕ) (b c : Block) → IsMade t.rules → Stands t m → IsSetUp t → Allocates t t' m k n (Some b) → AreApartIn t m b c → AreApartIn t' k b c
-still-apart t t' m k n b c l h u a x =
-    record { either = rw (allocated-keeps_extents t t' m k n (Some b) l h u a b, allocated-keeps_extents t t' m k n (Some b) l h u a c) x.either }
 
 pub allocated-written : (t t' : LayerModel) (m k w : Memory) (n : ℕ) (b : Block) → IsMade t.rules → Stands t m → IsSetUp t → Allocates t t' m k n (Some b) → Writes b k w → Allocates t t' m w n (Some b)
 allocated-written t t' m k w n b l h u a x =
@@ -40,7 +36,7 @@ allocated-written t t' m k w n b l h u a x =
       answer = a.answer;
       state = wrote.state ∙ a.state;
       cells = x.cells ∙ a.cells;
-      others = λ c o. then-stays t t' t' m k w c (a.others c o) (write-stays t' k w b l' s g.out x c (allocated-keeps_out t t' m k n (Some b) l h u a c o) (still-apart t t' m k n b c l h u a (g.fresh c o)));
+      others = λ c o. then-stays t t' t' m k w c (a.others c o) (write-stays t' k w b l' s g.out x c (allocated-keeps_out t t' m k n (Some b) l h u a c o) (g.fresh c o));
       made = λ c e. let q : b ≡ c = cc in subst (λ (d : Block). IsCleanOf t' w d) q (wrote.clean b g.out (inl refl) (a.made b refl));
     }
 

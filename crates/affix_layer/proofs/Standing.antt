@@ -9,10 +9,10 @@ use Rattle.layer_rules.specs.Blocks.{end_of}
 use Rattle.layer_rules.specs.Fields.{are_open}
 use Rattle.layer_rules.specs.Handing.{handing_rules}
 use Rattle.layer_rules.specs.Layering.{LayerModel, state_of, Stands, IsSetUp, IsOutOf, AreApartIn, KeepsBytes, Stays}
-use Rattle.layer_laws.specs.HandingParts.{out-hand, apart-hand}
-use Rattle.layer_laws.specs.HandingStands as Kit
+use Rattle.layer_laws.proofs.HandingParts.{out-hand, apart-hand}
+use Rattle.layer_laws.proofs.HandingStands as Kit
 use Rattle.layer_laws.specs.Lawful.{IsMade}
-use Rattle.layer_laws.specs.StandingLaws.{out-in_space}
+use Rattle.layer_laws.proofs.StandingLaws.{out-in_space}
 use Rattle.layer_core.specs.declared.Layer.{Ghosts}
 use Rattle.affix_rules.specs.AffixRules.{affix_down, affix_handing, affix_rules}
 use Rattle.affix_layer.specs.declared.affixing.Affix.{Affix}

@@ -1,8 +1,8 @@
 -- What holds of every layer that is made holds of an affix over such a parent.
 use Rattle.affix_rules.specs.AffixRules.{affix_handing, affix_rules}
-use Rattle.affix_rules.specs.AffixLawful.{affix-hands}
+use Rattle.affix_rules.proofs.AffixLawful.{affix-hands}
 use Rattle.layer_laws.specs.Lawful.{IsMade}
-use Rattle.layer_laws.specs.HandingStands.{hand-made}
+use Rattle.layer_laws.proofs.HandingStands.{hand-made}
 use Rattle.layer_core.specs.declared.Layer.{Ghosts}
 use Rattle.affix_layer.specs.declared.affixing.Affix.{Affix}
 use Rattle.affix_layer.specs.AffixModel.{affix_of}

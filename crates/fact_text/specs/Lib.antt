@@ -1,2 +1,1 @@
 pub mod FactText
-pub mod FactLemmas

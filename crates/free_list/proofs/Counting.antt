@@ -7,8 +7,8 @@ use Rattle.space_core.specs.Memory.{Memory}
 use Rattle.layer_rules.specs.Blocks.{block, is_apart}
 use Rattle.layer_rules.specs.Layering.{LayerModel, state_of, Stands, IsOutOf}
 use Rattle.layer_laws.specs.Lawful.{IsMade}
-use Rattle.layer_laws.specs.Placement.{apart-share_no_byte}
-use Rattle.layer_laws.specs.StandingLaws.{out-in_space}
+use Rattle.layer_laws.proofs.Placement.{apart-share_no_byte}
+use Rattle.layer_laws.proofs.StandingLaws.{out-in_space}
 use Rattle.free_list_rules.specs.FreeListMeanings.{ApartFrom, AllOut, AllApart}
 use Rattle.free_list.specs.declared.caching.Chain.{Chain}
 use Rattle.free_list.proofs.Standing.{IsList, places}

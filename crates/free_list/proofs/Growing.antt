@@ -14,8 +14,8 @@ use Rattle.layer_rules.specs.Rules.{Rules, longer_if}
 use Rattle.layer_rules.specs.State.{State, open_with, cache_own, one_child}
 use Rattle.free_list_rules.specs.FreeListRules.{cache_size, cache_down, free_list_rules}
 use Rattle.free_list_rules.specs.FreeListMeanings.{ApartFrom}
-use Rattle.free_list_rules.specs.FreeListChanges.{cache-size-rises, cache-lacks}
-use Rattle.free_list_rules.specs.CacheParts.{cache-enough}
+use Rattle.free_list_rules.proofs.FreeListChanges.{cache-size-rises, cache-lacks}
+use Rattle.free_list_rules.proofs.CacheParts.{cache-enough}
 use Rattle.free_list.specs.declared.caching.Chain.{Chain}
 use Rattle.free_list.specs.FreeListModel.{free_list_model}
 use Rattle.free_list.proofs.Standing.{IsHere, list-of, seen, apart-below, places, places-same, kept-by, list-frames, stays-below}

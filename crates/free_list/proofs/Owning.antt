@@ -9,7 +9,7 @@ use Rattle.layer_rules.specs.Offering.{is_served_size}
 use Rattle.layer_rules.specs.Owning.{owns_child_if}
 use Rattle.layer_rules.specs.State.{State, open_with, cache_own, one_child}
 use Rattle.layer_laws.specs.Lawful.{IsMade, Any}
-use Rattle.layer_laws.specs.FurtherLaws.{owned-keeps}
+use Rattle.layer_laws.proofs.FurtherLaws.{owned-keeps}
 use Rattle.free_list_rules.specs.FreeListRules.{cache_down, read_chain, free_list_rules}
 use Rattle.free_list.specs.declared.caching.Chain.{Chain}
 use Rattle.free_list.specs.FreeListProper.{IsProper}

@@ -13,12 +13,12 @@ use Rattle.layer_rules.specs.Layering.{LayerModel, state_of, IsSetUp, IsCleanOf,
 use Rattle.layer_rules.specs.Rules.{Rules}
 use Rattle.layer_rules.specs.State.{State, child, open_with, cache_own, one_child}
 use Rattle.layer_laws.specs.Lawful.{Any}
-use Rattle.layer_laws.specs.StandingLaws.{allocated-gives}
+use Rattle.layer_laws.proofs.StandingLaws.{allocated-gives}
 use Rattle.free_list_rules.specs.FreeListRules.{cache_down, cache_allocate, read_chain, free_list_rules}
 use Rattle.free_list_rules.specs.FreeListMeanings.{AllClean, IsChain}
-use Rattle.free_list_rules.specs.FreeListGood.{FitsDown}
-use Rattle.free_list_rules.specs.CacheImage.{free_list-image}
-use Rattle.free_list_rules.specs.CacheParts.{cached-size, uncached-size}
+use Rattle.free_list_rules.proofs.FreeListGood.{FitsDown}
+use Rattle.free_list_rules.proofs.CacheImage.{free_list-image}
+use Rattle.free_list_rules.proofs.CacheParts.{cached-size, uncached-size}
 use Rattle.free_list.specs.declared.caching.Chain.{Chain}
 use Rattle.free_list.specs.FreeListModel.{free_list_model}
 use Rattle.free_list.proofs.Standing.{IsHere, IsList, list-of, seen, any-each, places, places-same, kept-by, list-frames, stays-below, nothing-moved}

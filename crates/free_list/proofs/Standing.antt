@@ -8,13 +8,13 @@ use Rattle.layer_rules.specs.Rows.{Each}
 use Rattle.layer_rules.specs.Rules.{HasSomeTags}
 use Rattle.layer_rules.specs.Layering.{LayerModel, state_of, Stands, IsSetUp, IsOutOf, IsCleanOf, AreApartIn, KeepsBytes, Frames, Stays}
 use Rattle.layer_laws.specs.Lawful.{IsMade, Any}
-use Rattle.layer_laws.specs.StandingLaws.{shut-stands}
+use Rattle.layer_laws.proofs.StandingLaws.{shut-stands}
 use Rattle.layer_core.specs.declared.Layer.{Ghosts}
 use Rattle.free_list_rules.specs.FreeListRules.{cache_down, first_of, read_chain, free_list_rules}
 use Rattle.free_list_rules.specs.FreeListMeanings.{ApartFrom, AllOut, AllApart, AllClean, IsChain}
-use Rattle.free_list_rules.specs.CacheChains.{WordsKept, chain-same, read_chain-same}
-use Rattle.free_list_rules.specs.CacheImage.{image-free_list, free_list-image}
-use Rattle.free_list_rules.specs.CacheParts.{cache-parts, cache-enough, out-free_list}
+use Rattle.free_list_rules.proofs.CacheChains.{WordsKept, chain-same, read_chain-same}
+use Rattle.free_list_rules.proofs.CacheImage.{image-free_list, free_list-image}
+use Rattle.free_list_rules.proofs.CacheParts.{cache-parts, cache-enough, out-free_list}
 use Rattle.free_list.specs.declared.caching.Chain.{Chain}
 use Rattle.free_list.specs.declared.caching.FreeList.{FreeList}
 use Rattle.free_list.specs.FreeListProper.{IsProper}

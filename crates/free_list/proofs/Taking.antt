@@ -10,19 +10,19 @@ use Rattle.layer_rules.specs.After.{After, after, change_child}
 use Rattle.layer_rules.specs.Layering.{LayerModel, state_of, IsSetUp, IsOutOf, IsCleanOf, IsMarkedOf, AreApartIn, Deallocates}
 use Rattle.layer_rules.specs.State.{cached_of, with_own, open_with, cache_own, one_child}
 use Rattle.layer_laws.specs.Standing.{Writes}
-use Rattle.layer_laws.specs.StandingLaws.{out-in_space}
-use Rattle.layer_laws.specs.Placement.{write-keeps}
+use Rattle.layer_laws.proofs.StandingLaws.{out-in_space}
+use Rattle.layer_laws.proofs.Placement.{write-keeps}
 use Rattle.free_list_rules.specs.FreeListRules.{cache_down, first_of, read_chain, free_list_rules}
 use Rattle.free_list_rules.specs.FreeListMeanings.{ApartFrom, AllClean, IsChain}
-use Rattle.free_list_rules.specs.CacheChains.{chain-same}
-use Rattle.free_list_rules.specs.CacheImage.{free_list-image}
-use Rattle.free_list_rules.specs.CacheParts.{cached-size, uncached-size}
+use Rattle.free_list_rules.proofs.CacheChains.{chain-same}
+use Rattle.free_list_rules.proofs.CacheImage.{free_list-image}
+use Rattle.free_list_rules.proofs.CacheParts.{cached-size, uncached-size}
 use Rattle.free_list.specs.declared.caching.Chain.{Chain}
 use Rattle.free_list.specs.FreeListModel.{free_list_model}
 use Rattle.free_list.proofs.Counting.{few-cached}
 use Rattle.free_list.proofs.Serving.{read_chain-in}
 use Rattle.free_list.proofs.Standing.{IsHere, list-of, seen, apart-below, places, places-same, kept-by, list-frames, stays-below}
-use Rattle.layer_laws.specs.Writing.{word-inside, word_at-put_word, write-frames, write-stays}
+use Rattle.layer_laws.proofs.Writing.{word-inside, word_at-put_word, write-frames, write-stays}
 
 -- ---- the parent takes it
 

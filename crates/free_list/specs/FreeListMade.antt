@@ -2,10 +2,10 @@
 use Rattle.std.proofs.Common.{ℕ}
 use Rattle.layer_rules.specs.Rules.{Rules, HasSomeTags}
 use Rattle.free_list_rules.specs.FreeListRules.{free_list_rules}
-use Rattle.free_list_rules.specs.FreeListRegular.{free_list-regular}
-use Rattle.free_list_rules.specs.FreeListLawful.{free_list-lawful}
+use Rattle.free_list_rules.proofs.FreeListRegular.{free_list-regular}
+use Rattle.free_list_rules.proofs.FreeListLawful.{free_list-lawful}
 use Rattle.layer_laws.specs.Lawful.{IsMade, most_nodes, most_layers}
-use Rattle.layer_laws.specs.Steps.{one-more}
+use Rattle.layer_laws.proofs.Steps.{one-more}
 use Rattle.layer_core.specs.declared.Layer.{Ghosts}
 use Rattle.free_list.specs.declared.caching.FreeList.{FreeList}
 use Rattle.free_list.specs.FreeListProper.{IsProper}

@@ -8,7 +8,7 @@ use Rattle.space_core.specs.Memory.{Memory}
 use Rattle.layer_rules.specs.declared.Block.{Block}
 use Rattle.leaf_rules.specs.MemRules.{mem_rules}
 use Rattle.layer_rules.specs.Layering.{state_of, IsOutOf, IsRoutedIn, Stands}
-use Rattle.leaf_rules.specs.MemLawful.{out-mem}
+use Rattle.leaf_rules.proofs.MemLawful.{out-mem}
 use Rattle.layer_core.specs.LeafModel.{leaf_model}
 
 -- a block that a leaf can name

@@ -3,8 +3,8 @@ use Rattle.std.proofs.Common.{inl, refl, lit≤}
 use Rattle.space_core.specs.Leaf.{Leaf}
 use Rattle.leaf_rules.specs.MemRules.{mem_rules}
 use Rattle.layer_laws.specs.Lawful.{IsMade}
-use Rattle.leaf_rules.specs.MemRegular.{mem_is_regular}
-use Rattle.leaf_rules.specs.MemLawful.{mem_is_lawful}
+use Rattle.leaf_rules.proofs.MemRegular.{mem_is_regular}
+use Rattle.leaf_rules.proofs.MemLawful.{mem_is_lawful}
 use Rattle.layer_core.specs.LeafModel.{leaf_model}
 
 pub leaf_made : (l : Leaf) → IsMade (leaf_model l).rules

@@ -2,7 +2,7 @@
 use Rattle.std.proofs.Common.{◌≡◌, refl, true, lit≤}
 use Rattle.layer_rules.specs.NullRules.{null_rules}
 use Rattle.layer_laws.specs.Lawful.{IsMade}
-use Rattle.layer_laws.specs.NullLawful.{null-lawful, null-regular}
+use Rattle.layer_laws.proofs.NullLawful.{null-lawful, null-regular}
 use Rattle.layer_core.specs.declared.null.NullLayer.{NullLayer}
 use Rattle.layer_core.specs.NullModel.{null_model}
 

@@ -8,7 +8,7 @@ use Rattle.layer_rules.specs.Layering.{LayerModel, kept_state}
 use Rattle.layer_rules.specs.Offering.{is_served_size}
 use Rattle.layer_rules.specs.Rules.{owns_along}
 use Rattle.layer_laws.specs.HandingModel.{open_if, keeps_nothing}
-use Rattle.layer_laws.specs.HandingPaths.{hand-walks}
+use Rattle.layer_laws.proofs.HandingPaths.{hand-walks}
 use Rattle.layer_laws.specs.Lawful.{IsMade, yes_if}
 use Rattle.quantize_rules.specs.QuantizeRules.{quantize_handing, quantize_rules}
 use Rattle.quantizer.specs.QuantizerModel.{quantizer_model}

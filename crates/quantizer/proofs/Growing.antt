@@ -11,10 +11,10 @@ use Rattle.layer_rules.specs.Expanding.{change_if}
 use Rattle.layer_rules.specs.Handing.{hand_expansion, handing_rules}
 use Rattle.layer_rules.specs.Layering.{LayerModel, state_of, Stands, IsSetUp, IsOutOf, IsCleanOf, Frames, Expands, expanded}
 use Rattle.layer_rules.specs.Rules.{longer_if}
-use Rattle.layer_laws.specs.HandingChanges.{hand-expanded}
+use Rattle.layer_laws.proofs.HandingChanges.{hand-expanded}
 use Rattle.layer_laws.specs.Lawful.{IsMade}
 use Rattle.quantize_rules.specs.QuantizeRules.{quantize_down, quantize_handing}
-use Rattle.size_round.specs.KindLaws.{rounded_is_monotone}
+use Rattle.size_round.proofs.KindLaws.{rounded_is_monotone}
 use Rattle.layer_laws.specs.HandingModel.{keeps_nothing}
 use Rattle.quantizer.specs.QuantizerModel.{quantizer_model}
 use Rattle.quantizer.proofs.Opened.{opened_model, parent-open, as-opened, over-opened, hands}

@@ -7,7 +7,7 @@ use Rattle.layer_laws.specs.Lawful.{IsMade}
 use Rattle.layer_laws.specs.HandsDown.{HandsDown}
 use Rattle.layer_laws.specs.HandingModel.{hand_fields, hand_model, open_if, keeps_nothing}
 use Rattle.quantize_rules.specs.QuantizeRules.{quantize_handing, quantize_rules}
-use Rattle.quantize_rules.specs.QuantizeLawful.{quantize-hands}
+use Rattle.quantize_rules.proofs.QuantizeLawful.{quantize-hands}
 use Rattle.quantizer.specs.QuantizerModel.{quantizer_model}
 
 -- what contracts see of an open quantizer

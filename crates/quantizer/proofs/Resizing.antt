@@ -11,14 +11,14 @@ use Rattle.layer_rules.specs.Handing.{shown_by, count_reallocation, hand_realloc
 use Rattle.layer_rules.specs.Layering.{LayerModel, state_of, Stands, IsSetUp, IsOutOf, IsCleanOf, Carries, Reallocates, reallocated, is_done, block_after}
 use Rattle.layer_rules.specs.Reallocating.{in_place, reallocated_unless, either_reallocate}
 use Rattle.layer_rules.specs.State.{nothing, open_with, one_child}
-use Rattle.layer_laws.specs.HandingCalls.{frame-open, hand-stays}
-use Rattle.layer_laws.specs.HandingParts.{out-hand, apart-hand}
-use Rattle.layer_laws.specs.HandingStands.{parent-stands}
+use Rattle.layer_laws.proofs.HandingCalls.{frame-open, hand-stays}
+use Rattle.layer_laws.proofs.HandingParts.{out-hand, apart-hand}
+use Rattle.layer_laws.proofs.HandingStands.{parent-stands}
 use Rattle.layer_laws.specs.Lawful.{IsMade}
-use Rattle.layer_laws.specs.Reallocated.{shown-done}
-use Rattle.layer_laws.specs.StandingReallocated.{reallocated-keeps}
+use Rattle.layer_laws.proofs.Reallocated.{shown-done}
+use Rattle.layer_laws.proofs.StandingReallocated.{reallocated-keeps}
 use Rattle.quantize_rules.specs.QuantizeRules.{quantize_down, quantize_handing}
-use Rattle.size_round.specs.KindLaws.{rounded_is_enough}
+use Rattle.size_round.proofs.KindLaws.{rounded_is_enough}
 use Rattle.layer_laws.specs.HandingModel.{keeps_nothing}
 use Rattle.quantizer.specs.QuantizerModel.{quantizer_model}
 use Rattle.quantizer.proofs.Opened.{opened_model, parent-open, as-opened, over-opened, hands}

@@ -11,10 +11,10 @@ use Rattle.layer_rules.specs.After.{After, Placed, from_child}
 use Rattle.layer_rules.specs.Allocating.{truncated}
 use Rattle.layer_rules.specs.Handing.{hand_request, handing_rules}
 use Rattle.layer_rules.specs.Layering.{LayerModel, state_of, Stands, IsSetUp, IsOutOf, IsCleanOf, Allocates, AlignedAllocates, Deallocates, block_in, aligned_allocated}
-use Rattle.layer_laws.specs.FurtherLaws.{aligned_allocated-keeps}
-use Rattle.layer_laws.specs.HandingCalls.{frame-open, hand-stays, hand-allocated, hand-deallocated}
-use Rattle.layer_laws.specs.HandingParts.{out-hand}
-use Rattle.layer_laws.specs.HandingStands.{parent-stands}
+use Rattle.layer_laws.proofs.FurtherLaws.{aligned_allocated-keeps}
+use Rattle.layer_laws.proofs.HandingCalls.{frame-open, hand-stays, hand-allocated, hand-deallocated}
+use Rattle.layer_laws.proofs.HandingParts.{out-hand}
+use Rattle.layer_laws.proofs.HandingStands.{parent-stands}
 use Rattle.layer_laws.specs.Lawful.{IsMade}
 use Rattle.quantize_rules.specs.QuantizeRules.{quantize_down, quantize_handing}
 use Rattle.layer_laws.specs.HandingModel.{keeps_nothing}

@@ -2,9 +2,9 @@
 use Rattle.std.proofs.Common.{◌≡◌, true}
 use Rattle.size_round.specs.Sizes.{is_proper_kind}
 use Rattle.quantize_rules.specs.QuantizeRules.{quantize_handing, quantize_rules}
-use Rattle.quantize_rules.specs.QuantizeLawful.{quantize-hands}
+use Rattle.quantize_rules.proofs.QuantizeLawful.{quantize-hands}
 use Rattle.layer_laws.specs.Lawful.{IsMade}
-use Rattle.layer_laws.specs.HandingStands.{hand-made}
+use Rattle.layer_laws.proofs.HandingStands.{hand-made}
 use Rattle.layer_core.specs.declared.Layer.{Ghosts}
 use Rattle.size_round.specs.declared.rounding.Rounding.{Ghosts as RoundingGhosts}
 use Rattle.quantizer.specs.declared.quantizing.Quantizer.{Quantizer}

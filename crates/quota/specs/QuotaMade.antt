@@ -1,8 +1,8 @@
 -- What holds of every layer that is made holds of a quota over such a parent.
 use Rattle.quota_rules.specs.QuotaRules.{quota_handing, quota_rules}
-use Rattle.quota_rules.specs.QuotaLawful.{quota-hands}
+use Rattle.quota_rules.proofs.QuotaLawful.{quota-hands}
 use Rattle.layer_laws.specs.Lawful.{IsMade}
-use Rattle.layer_laws.specs.HandingStands.{hand-made}
+use Rattle.layer_laws.proofs.HandingStands.{hand-made}
 use Rattle.layer_core.specs.declared.Layer.{Ghosts}
 use Rattle.quota.specs.declared.limit.Quota.{Quota}
 use Rattle.quota.specs.QuotaModel.{quota_of}

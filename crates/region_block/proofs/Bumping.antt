@@ -7,7 +7,7 @@ use Rattle.layer_rules.specs.declared.Block.{Block}
 use Rattle.layer_rules.specs.After.{After, after, Placed, placed, refuse}
 use Rattle.layer_rules.specs.Blocks.{block, end_of, with_len}
 use Rattle.layer_rules.specs.Layering.{LayerModel, state_of, Stands, Frames, block_in, aligned_allocated, AlignedAllocates, expanded, Expands}
-use Rattle.layer_laws.specs.StandingLaws.{unless-refuses}
+use Rattle.layer_laws.proofs.StandingLaws.{unless-refuses}
 use Rattle.region_rules.specs.RegionRules.{region_rules, region_allocate, region_aligned, region_expand}
 use Rattle.region_block.specs.declared.bump.Bump.{Bump}
 use Rattle.region_block.specs.RegionModel.{region_model}

@@ -17,8 +17,8 @@ use Rattle.region_block.specs.RegionModel.{region_model}
 use Rattle.layer_laws.specs.Lawful.{IsMade}
 use Rattle.std.proofs.lemmas.Bool.{and_from}
 use Rattle.layer_laws.specs.Standing.{ChangesOwn}
-use Rattle.layer_laws.specs.StandingLaws.{allocated-changes_own, changes-in_turn, set_up-stands, set_up-changes_own, torn-changes_own, shut-has_no_cells}
-use Rattle.layer_laws.specs.TornDown.{asked-torn_down}
+use Rattle.layer_laws.proofs.StandingLaws.{allocated-changes_own, changes-in_turn, set_up-stands, set_up-changes_own, torn-changes_own, shut-has_no_cells}
+use Rattle.layer_laws.proofs.TornDown.{asked-torn_down}
 use Rattle.region_block.proofs.Opening.{granted-by, region-chunk_refused, region-granted}
 
 -- the empty region over a closed parent, as contracts see it

@@ -14,12 +14,12 @@ use Rattle.layer_rules.specs.Fields.{are_open}
 use Rattle.region_rules.specs.RegionRules.{region_rules}
 use Rattle.layer_rules.specs.State.{State, closed, chunk_of, position_of}
 use Rattle.layer_rules.specs.Layering.{LayerModel, state_of, Stands, Allocates, IsOutOf, IsRoutedIn, IsFactOf}
-use Rattle.layer_laws.specs.Basics.{and-snd}
+use Rattle.layer_laws.proofs.Basics.{and-snd}
 use Rattle.layer_rules.specs.Rules.{HasSomeTags}
 use Rattle.layer_laws.specs.Lawful.{IsMade}
 use Rattle.region_block.specs.RegionProper.{IsProper}
-use Rattle.layer_laws.specs.StandingLaws.{made-shut, shut-stands, out-in_space, unless-refuses, refused}
-use Rattle.region_rules.specs.RegionLawful.{out-region, region-parts}
+use Rattle.layer_laws.proofs.StandingLaws.{made-shut, shut-stands, out-in_space, unless-refuses, refused}
+use Rattle.region_rules.proofs.RegionLawful.{out-region, region-parts}
 use Rattle.region_block.specs.declared.bump.Bump.{Bump}
 use Rattle.region_block.specs.RegionModel.{region_model}
 

@@ -1,13 +1,13 @@
 -- What holds of every layer that is made holds of a region over such a parent.
 use Rattle.std.proofs.Common.{◌≡◌, refl, ℕ, true}
-use Rattle.size_round.specs.PowerLaws.{powers_pass}
+use Rattle.size_round.proofs.PowerLaws.{powers_pass}
 use Rattle.layer_rules.specs.Rules.{Rules, HasSomeTags}
 use Rattle.region_rules.specs.RegionRules.{region_rules}
 use Rattle.region_rules.specs.RegionMeanings.{IsRegionSize}
-use Rattle.region_rules.specs.RegionRegular.{region_is_regular}
-use Rattle.region_rules.specs.RegionLawful.{region_is_lawful}
+use Rattle.region_rules.proofs.RegionRegular.{region_is_regular}
+use Rattle.region_rules.proofs.RegionLawful.{region_is_lawful}
 use Rattle.layer_laws.specs.Lawful.{IsMade}
-use Rattle.layer_laws.specs.Steps.{one-more}
+use Rattle.layer_laws.proofs.Steps.{one-more}
 use Rattle.layer_rules.specs.Layering.{LayerModel}
 use Rattle.layer_core.specs.declared.Layer.{Ghosts}
 use Rattle.region_block.specs.declared.bump.Region.{Region}

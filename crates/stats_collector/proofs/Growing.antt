@@ -7,10 +7,10 @@ use Rattle.layer_rules.specs.declared.Stats.{Stats}
 use Rattle.layer_rules.specs.Fields.{kept_stats}
 use Rattle.layer_rules.specs.Layering.{LayerModel, IsOutOf, Expands}
 use Rattle.layer_rules.specs.State.{stats_own}
-use Rattle.layer_laws.specs.HandingChanges.{hand-expanded}
+use Rattle.layer_laws.proofs.HandingChanges.{hand-expanded}
 use Rattle.layer_laws.specs.Lawful.{IsMade}
 use Rattle.stats_rules.specs.Counting.{count_expand}
-use Rattle.stats_rules.specs.StatsLawful.{stats-hands}
+use Rattle.stats_rules.proofs.StatsLawful.{stats-hands}
 use Rattle.stats_rules.specs.StatsRules.{slack_of, stats_handing, stats_rules}
 use Rattle.stats_collector.specs.CollectorModel.{collector_model}
 

@@ -11,11 +11,11 @@ use Rattle.layer_rules.specs.Handing.{count_reallocation, hand_deallocate, hand_
 use Rattle.layer_rules.specs.Layering.{LayerModel, state_of, Stands, IsOutOf, Reallocates, ReallocatesBy, reallocated, is_done, block_after}
 use Rattle.layer_rules.specs.Reallocating.{reallocated_unless}
 use Rattle.layer_rules.specs.State.{stats_own, open_with, one_child}
-use Rattle.layer_laws.specs.HandingCalls.{frame-open}
-use Rattle.layer_laws.specs.HandingParts.{out-hand, apart-hand}
-use Rattle.layer_laws.specs.HandingStands.{parent-stands, out-below}
+use Rattle.layer_laws.proofs.HandingCalls.{frame-open}
+use Rattle.layer_laws.proofs.HandingParts.{out-hand, apart-hand}
+use Rattle.layer_laws.proofs.HandingStands.{parent-stands, out-below}
 use Rattle.layer_laws.specs.Lawful.{IsMade}
-use Rattle.layer_laws.specs.StandingLaws.{keeping}
+use Rattle.layer_laws.proofs.StandingLaws.{keeping}
 use Rattle.stats_rules.specs.Counting.{count_failed_reallocate, count_reallocate}
 use Rattle.stats_rules.specs.StatsRules.{count_reallocated, slack_of, stats_handing, stats_rules}
 use Rattle.stats_collector.specs.CollectorModel.{collector_model}

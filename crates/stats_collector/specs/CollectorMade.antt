@@ -1,8 +1,8 @@
 -- What holds of every layer that is made holds of a collector over such a parent.
 use Rattle.layer_laws.specs.Lawful.{IsMade}
-use Rattle.layer_laws.specs.HandingStands.{hand-made}
+use Rattle.layer_laws.proofs.HandingStands.{hand-made}
 use Rattle.layer_core.specs.declared.Layer.{Ghosts}
-use Rattle.stats_rules.specs.StatsLawful.{stats-hands}
+use Rattle.stats_rules.proofs.StatsLawful.{stats-hands}
 use Rattle.stats_rules.specs.StatsRules.{stats_handing, stats_rules}
 use Rattle.stats_collector.specs.declared.collector.StatsCollector.{StatsCollector}
 use Rattle.stats_collector.specs.CollectorModel.{collector_of}

@@ -1,6 +1,6 @@
 use Rattle.std.proofs.Common.{◌≤◌, min, arith}
-use Rattle.layer_laws.specs.StandingLaws.{allocated-stands, allocated-gives, allocated-keeps_out, out-in_space}
-use Rattle.layer_laws.specs.Moving.{copied-to, done-move}
+use Rattle.layer_laws.proofs.StandingLaws.{allocated-stands, allocated-gives, allocated-keeps_out, out-in_space}
+use Rattle.layer_laws.proofs.Moving.{copied-to, done-move}
 use Rattle.layer_core.proofs.Layer.move_block.Goals as goal
 
 pub copy-requires-clause-source : goal.copy-requires-clause-source

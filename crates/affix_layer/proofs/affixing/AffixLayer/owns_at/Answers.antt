@@ -4,7 +4,7 @@ use Rattle.layer_rules.specs.declared.Asked.{Asked}
 use Rattle.layer_rules.specs.Offering.{is_served_size}
 use Rattle.layer_laws.specs.Lawful.{yes_if}
 use Rattle.layer_laws.specs.HandingModel.{open_if, keeps_nothing}
-use Rattle.layer_laws.specs.HandingPaths.{hand-walks}
+use Rattle.layer_laws.proofs.HandingPaths.{hand-walks}
 use Rattle.affix_rules.specs.AffixRules.{affix_handing, affix_rules}
 use Rattle.affix_layer.proofs.Standing.{set-some}
 use Rattle.affix_layer.proofs.affixing.AffixLayer.owns_at.Goals as goal

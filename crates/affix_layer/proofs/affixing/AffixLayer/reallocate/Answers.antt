@@ -1,7 +1,7 @@
 use Rattle.std.proofs.Common.{refl, sym, subst}
 use Rattle.affix_rules.specs.AffixRules.{affix_handing, affix_rules}
 use Rattle.layer_rules.specs.Layering.{state_of, ReallocatesBy}
-use Rattle.layer_laws.specs.HandingChanges.{hand-reallocated_generally}
+use Rattle.layer_laws.proofs.HandingChanges.{hand-reallocated_generally}
 use Rattle.affix_layer.specs.AffixModel.{affix_of}
 use Rattle.affix_layer.proofs.affixing.AffixLayer.reallocate.Goals as goal
 

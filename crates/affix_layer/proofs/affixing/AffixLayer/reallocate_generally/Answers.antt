@@ -1,7 +1,7 @@
 use Rattle.std.proofs.Common.{◌≡◌, true, ap, sym, ◌∙◌, arith}
 use Rattle.layer_rules.specs.declared.Offers.{Offers}
-use Rattle.layer_laws.specs.Moving.{of-grown_then_moved}
-use Rattle.layer_laws.specs.StandingLaws.{expanded-keeps}
+use Rattle.layer_laws.proofs.Moving.{of-grown_then_moved}
+use Rattle.layer_laws.proofs.StandingLaws.{expanded-keeps}
 use Rattle.affix_layer.specs.AffixMade.{affix_made}
 use Rattle.affix_layer.specs.AffixModel.{affix_of}
 use Rattle.affix_layer.proofs.Moving.{tried-others}
@@ -21,7 +21,7 @@ returns-then-offers-clause-generally g c =
     let x : (affix_of g.P.Layer.model c.args.self.now).rules.offers.expand ≡ true = ap (λ (o : Offers). o.expand) (sym c.offers.ensures) ∙ c.if-offers.true in
     of-grown_then_moved _ _ _ _ _ _ _ _ _ _ _ (omega arith) (omega arith) x c.requires.out k.changes_own
     (λ d o. k.out d o (λ z. absurd (cc)))
-    (λ d z. record { either = rw (k.extents c.args.b.now, k.extents d) z.either })
+    (λ d p z. record { either = rw (k.extents c.args.b.now c.requires.out (λ z. absurd (cc)), k.extents d p (λ z. absurd (cc))) z.either })
     c.if-expand.ensures.expands c.move_block.ensures.moves
 
 pub returns-then-offers-clause-around : goal.returns-then-offers-clause-around

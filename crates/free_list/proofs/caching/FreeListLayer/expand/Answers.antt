@@ -1,5 +1,5 @@
 use Rattle.std.proofs.Common.{arith}
-use Rattle.layer_laws.specs.StandingLaws.{out-in_space}
+use Rattle.layer_laws.proofs.StandingLaws.{out-in_space}
 use Rattle.free_list.specs.FreeListMade.{free_list_made}
 use Rattle.free_list.specs.FreeListModel.{free_list_of}
 use Rattle.free_list.proofs.Growing.{grows}

@@ -1,9 +1,9 @@
 use Rattle.std.proofs.Common.{◌≡◌, sym, ap, ◌∙◌, ◌≤◌, ◌+◌, true, arith}
 use Rattle.layer_rules.specs.declared.Block.{Block}
 use Rattle.layer_rules.specs.declared.Offers.{Offers}
-use Rattle.layer_laws.specs.StandingLaws.{out-in_space}
+use Rattle.layer_laws.proofs.StandingLaws.{out-in_space}
 use Rattle.size_round.specs.Sizes.{rounded}
-use Rattle.size_round.specs.KindLaws.{rounded_is_monotone}
+use Rattle.size_round.proofs.KindLaws.{rounded_is_monotone}
 use Rattle.quantizer.specs.QuantizerMade.{quantizer_made}
 use Rattle.quantizer.specs.QuantizerModel.{quantizer_of}
 use Rattle.quantizer.proofs.Growing.{said-yes, grows_at_once, grows_below}

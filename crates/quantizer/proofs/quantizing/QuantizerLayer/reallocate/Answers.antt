@@ -1,5 +1,5 @@
 use Rattle.std.proofs.Common.{arith}
-use Rattle.layer_laws.specs.StandingLaws.{out-in_space}
+use Rattle.layer_laws.proofs.StandingLaws.{out-in_space}
 use Rattle.quantizer.specs.QuantizerMade.{quantizer_made}
 use Rattle.quantizer.specs.QuantizerModel.{quantizer_of}
 use Rattle.quantizer.proofs.Resizing.{resizes}

@@ -3,12 +3,12 @@ use Rattle.std.proofs.lemmas.Bool.Decides.{nat_tests}
 use Rattle.size_round.specs.Sizes.{limit}
 use Rattle.space_core.specs.Memory.{Memory}
 use Rattle.quota_rules.specs.QuotaRules.{charged, quota_handing, quota_rules}
-use Rattle.quota_rules.specs.QuotaLawful.{quota-hands}
+use Rattle.quota_rules.proofs.QuotaLawful.{quota-hands}
 use Rattle.layer_rules.specs.declared.Block.{Block}
 use Rattle.layer_rules.specs.Fields.{are_open}
 use Rattle.layer_rules.specs.Layering.{LayerModel, Stands, Allocates}
 use Rattle.layer_laws.specs.Lawful.{IsMade}
-use Rattle.layer_laws.specs.HandingCalls.{hand-allocated}
+use Rattle.layer_laws.proofs.HandingCalls.{hand-allocated}
 use Rattle.quota.specs.QuotaModel.{kept_used, quota_model}
 use Rattle.quota.proofs.limit.QuotaLayer.allocate.Goals as goal
 

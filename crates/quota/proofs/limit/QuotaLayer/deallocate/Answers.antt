@@ -1,8 +1,8 @@
 use Rattle.std.proofs.Common.{ap, sym, subst, Some, true, false, refl}
 use Rattle.quota_rules.specs.QuotaRules.{used_own, quota_handing, quota_rules}
-use Rattle.quota_rules.specs.QuotaLawful.{quota-hands}
+use Rattle.quota_rules.proofs.QuotaLawful.{quota-hands}
 use Rattle.layer_rules.specs.Layering.{Deallocates, IsOutOf}
-use Rattle.layer_laws.specs.HandingCalls.{hand-deallocated}
+use Rattle.layer_laws.proofs.HandingCalls.{hand-deallocated}
 use Rattle.quota.specs.QuotaModel.{kept_used, quota_model}
 use Rattle.quota.proofs.limit.QuotaLayer.deallocate.Goals as goal
 

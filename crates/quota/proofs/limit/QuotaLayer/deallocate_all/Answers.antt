@@ -2,7 +2,7 @@ use Rattle.std.proofs.Common.{refl, ℕ, Option, Some, None}
 use Rattle.space_core.specs.Memory.{Memory}
 use Rattle.quota_rules.specs.QuotaRules.{quota_handing, quota_rules}
 use Rattle.layer_rules.specs.Layering.{LayerModel, IsSetUp, DeallocatesAll}
-use Rattle.layer_laws.specs.HandingCalls.{hand-deallocated_all}
+use Rattle.layer_laws.proofs.HandingCalls.{hand-deallocated_all}
 use Rattle.quota.specs.QuotaModel.{kept_used, quota_model}
 use Rattle.quota.proofs.limit.QuotaLayer.deallocate_all.Goals as goal
 

@@ -3,12 +3,12 @@ use Rattle.std.proofs.lemmas.Bool.Decides.{nat_tests}
 use Rattle.size_round.specs.Sizes.{limit}
 use Rattle.space_core.specs.Memory.{Memory}
 use Rattle.quota_rules.specs.QuotaRules.{charged, quota_handing, quota_rules}
-use Rattle.quota_rules.specs.QuotaLawful.{quota-hands}
+use Rattle.quota_rules.proofs.QuotaLawful.{quota-hands}
 use Rattle.layer_rules.specs.declared.Block.{Block}
 use Rattle.layer_rules.specs.Layering.{LayerModel, IsOutOf, Expands}
 use Rattle.layer_laws.specs.Lawful.{IsMade}
-use Rattle.layer_laws.specs.StandingLaws.{out-in_space}
-use Rattle.layer_laws.specs.HandingChanges.{hand-expanded}
+use Rattle.layer_laws.proofs.StandingLaws.{out-in_space}
+use Rattle.layer_laws.proofs.HandingChanges.{hand-expanded}
 use Rattle.quota.specs.QuotaMade.{quota_made}
 use Rattle.quota.specs.QuotaModel.{kept_used, quota_of, quota_model}
 use Rattle.quota.proofs.limit.QuotaLayer.expand.Goals as goal

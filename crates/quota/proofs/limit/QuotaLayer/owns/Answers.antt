@@ -6,7 +6,7 @@ use Rattle.layer_rules.specs.Fields.{are_open}
 use Rattle.layer_rules.specs.Layering.{LayerModel, IsSetUp, Owns}
 use Rattle.layer_rules.specs.Offering.{is_served_size}
 use Rattle.layer_laws.specs.Lawful.{IsMade}
-use Rattle.layer_laws.specs.HandingChanges.{hand-owned}
+use Rattle.layer_laws.proofs.HandingChanges.{hand-owned}
 use Rattle.quota.specs.QuotaModel.{kept_used, quota_model}
 use Rattle.quota.proofs.limit.QuotaLayer.owns.Goals as goal
 

@@ -1,7 +1,7 @@
 use Rattle.std.proofs.Common.{refl, sym, subst}
 use Rattle.quota_rules.specs.QuotaRules.{quota_handing, quota_rules}
 use Rattle.layer_rules.specs.Layering.{state_of, ReallocatesBy}
-use Rattle.layer_laws.specs.HandingChanges.{hand-reallocated_generally}
+use Rattle.layer_laws.proofs.HandingChanges.{hand-reallocated_generally}
 use Rattle.quota.specs.QuotaModel.{quota_of}
 use Rattle.quota.proofs.limit.QuotaLayer.reallocate.Goals as goal
 

@@ -1,7 +1,7 @@
 use Rattle.std.proofs.Common.{◌≡◌, refl, true, nat_le, arith}
 use Rattle.std.proofs.lemmas.Bool.Decides.{nat_tests}
 use Rattle.quota_rules.specs.QuotaRules.{quota_handing, quota_rules}
-use Rattle.layer_laws.specs.HandingCalls.{hand-set_up, hand-refused}
+use Rattle.layer_laws.proofs.HandingCalls.{hand-set_up, hand-refused}
 use Rattle.quota.specs.QuotaModel.{kept_used}
 use Rattle.quota.proofs.limit.QuotaLayer.set_up.Goals as goal
 

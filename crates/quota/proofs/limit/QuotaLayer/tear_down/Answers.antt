@@ -1,5 +1,5 @@
 use Rattle.quota_rules.specs.QuotaRules.{quota_handing, quota_rules}
-use Rattle.layer_laws.specs.HandingCalls.{hand-torn_down}
+use Rattle.layer_laws.proofs.HandingCalls.{hand-torn_down}
 use Rattle.quota.specs.QuotaModel.{kept_used}
 use Rattle.quota.proofs.limit.QuotaLayer.tear_down.Goals as goal
 

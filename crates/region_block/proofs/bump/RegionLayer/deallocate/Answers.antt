@@ -1,5 +1,5 @@
 use Rattle.std.proofs.Common.{arith}
-use Rattle.size_round.specs.UpLeast.{enough_times}
+use Rattle.size_round.proofs.UpLeast.{enough_times}
 use Rattle.region_block.proofs.Standing.{in_space-at, below-at}
 use Rattle.region_block.proofs.bump.RegionLayer.deallocate.Goals as goal
 

@@ -1,5 +1,5 @@
 use Rattle.std.proofs.Common.{arith}
-use Rattle.size_round.specs.UpLeast.{enough_times}
+use Rattle.size_round.proofs.UpLeast.{enough_times}
 use Rattle.region_block.proofs.bump.RegionLayer.good_alloc_size.Goals as goal
 
 pub up-requires-clause-some : goal.up-requires-clause-some

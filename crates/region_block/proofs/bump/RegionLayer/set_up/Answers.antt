@@ -1,6 +1,6 @@
 use Rattle.std.proofs.Common.{◌∙◌, ap, ℕ, None, is_some, arith}
 use Rattle.size_round.specs.Sizes.{up}
-use Rattle.layer_laws.specs.StandingLaws.{allocated-stands, set_up-stands}
+use Rattle.layer_laws.proofs.StandingLaws.{allocated-stands, set_up-stands}
 use Rattle.region_block.proofs.Opening.{refused-by}
 use Rattle.region_block.proofs.SettingUp.{no_bump, asked-granted, asked-refused}
 use Rattle.region_block.proofs.Standing.{parent-stands}

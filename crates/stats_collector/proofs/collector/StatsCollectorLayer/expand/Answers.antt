@@ -1,5 +1,5 @@
 use Rattle.std.proofs.Common.{arith}
-use Rattle.layer_laws.specs.StandingLaws.{out-in_space}
+use Rattle.layer_laws.proofs.StandingLaws.{out-in_space}
 use Rattle.stats_collector.specs.CollectorMade.{collector_made}
 use Rattle.stats_collector.specs.CollectorModel.{collector_of}
 use Rattle.stats_collector.proofs.Growing.{grown-parent}
