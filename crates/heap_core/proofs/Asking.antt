@@ -10,18 +10,18 @@ use Rattle.layer_rules.specs.State.{State}
 use Rattle.layer_rules.specs.Rules.{owns_along}
 use Rattle.layer_rules.specs.Layering.{LayerModel, state_of, kept_state, Owns}
 use Rattle.layer_laws.specs.Lawful.{IsMade}
-use Rattle.layer_laws.specs.StandingLaws.{out-in_space}
-use Rattle.layer_laws.specs.FurtherLaws.{owned-keeps}
+use Rattle.layer_laws.proofs.StandingLaws.{out-in_space}
+use Rattle.layer_laws.proofs.FurtherLaws.{owned-keeps}
 use Rattle.heap_core.specs.declared.Named.{Named}
 use Rattle.heap_core.specs.declared.Call.TheVariants.{Owns as OwnsOf, OwnsAt, Good, Read}
 use Rattle.heap_core.specs.declared.CallFault.TheVariants.{NameNotLive, OutOfBlock, NotOffered, NotServing, NoSuchLayer}
-use Rattle.heap_core.specs.World.{Live, live}
-use Rattle.heap_core.specs.Names.{named_at}
+use Rattle.heap_core.specs.World.{Live}
+use Rattle.heap_core.specs.Names.{named, named_at}
 use Rattle.heap_core.specs.Performing.{IsCall, run_of, Performed, if_offered, if_inside, owned, asked_at, bytes_read, performed}
-use Rattle.heap_core.specs.Holding.{bytes_of, world_of, run_in, Held}
+use Rattle.heap_core.specs.Holding.{live_in, world_of, run_in, Held}
 use Rattle.heap_core.specs.Heap.{Performs}
 use Rattle.heap_core.proofs.ByteLemmas.{slice-inner}
-use Rattle.heap_core.proofs.Stepping.{call-answered, call-in_fault, answer-is, fault-not_live, name-found, live-out, IsAgain, left-held, all-left}
+use Rattle.heap_core.proofs.Stepping.{call-answered, call-in_fault, answer-is, fault-not_live, name-found, live-out, IsAgain, left-world, left-held, all-left}
 use Rattle.heap_core.specs.declared.Answer.TheVariants as answers
 
 -- ---- `Owns`
@@ -40,7 +40,7 @@ owned-kept t m b l =
     sym (r.owned b (kept_state t)) ∙ (ap (λ (s : State). (t.rules.owns b s).owned) (r.read t.fields [] m.bytes) ∙ r.owned b (state_of t m))
 
 module _ (t : LayerModel) (table : List Named) (m : Memory) (name : ℕ) (b : Block) (h : Held t table m) (e : named_at table name ≡ Some b) where
-  owns-found : owns_performed t table m (live name b (bytes_of b m.bytes)) ≡ performed t.rules (OwnsOf name) (run_in t table m)
+  owns-found : owns_performed t table m (live_in t m (named name b)) ≡ performed t.rules (OwnsOf name) (run_in t table m)
   unfolding performed
   owns-found = name-found t table m name b (owns_performed t table m) e
 
@@ -52,12 +52,12 @@ module _ (t : LayerModel) (table : List Named) (m : Memory) (name : ℕ) (b : Bl
   owns-said t' said l' offered a =
       let k = owned-keeps t t' m b said h.layer h.stands a in
       let y = t.rules.owns b (state_of t m) in
-      let w = world_of table m.bytes in
-      let again : IsAgain t t' m m = record { made = l'; opened = a.opened ∙ h.opened; stands = k.stands; size = refl; extents = k.extents } in
-      let left = all-left t t' table m m h (λ c o z. record { out = k.out c o; clean = k.clean c z; bytes = record { at = λ i from upto. refl } }) in
+      let w = world_of t table m in
+      let again : IsAgain t t' m m = record { made = l'; opened = a.opened ∙ h.opened; stands = k.stands; size = refl } in
+      let left = all-left t t' table m m h (λ c o z. record { out = k.out c o; extent = k.extents c; route = k.routes c o; clean = k.clean c z; bytes = record { at = λ i from upto. refl } }) in
       let answer : said ≡ y.owned = a.answer ∙ owned-kept t m b h.layer in
       call-answered t t' table table m m (OwnsOf name) (answers.Said said) h (left-held t t' m m again table left h.apart) refl a.rules tt tt
-      (answer-is (answers.Said said) t' table m y.state m.cells w (a.state m.bytes) refl refl
+      (answer-is (answers.Said said) t' table m y.state m.cells w (a.state m.bytes) refl (left-world t t' m m again table left)
       ∙ (ap (λ (d : Bool). let q : Performed = (Ok (answers.Said d), run_of y.state m.cells w) in q) answer
       ∙ (sym (ap (λ o. if_offered o (run_in t table m) (owned (run_in t table m) y)) offered) ∙ owns-found)))
 
@@ -114,10 +114,10 @@ read-not_live t table m name offset len h e = call-in_fault t table m (Read name
 
 module _ (t : LayerModel) (table : List Named) (m : Memory) (name offset len : ℕ) (b : Block) (h : Held t table m) (e : named_at table name ≡ Some b) where
   read-found : (inside : Bool) → nat_le (offset + len) b.len ≡ inside
-      → if_inside inside (run_in t table m) (bytes_read offset len (live name b (bytes_of b m.bytes)) (run_in t table m)) ≡ performed t.rules (Read name offset len) (run_in t table m)
+      → if_inside inside (run_in t table m) (bytes_read offset len (live_in t m (named name b)) (run_in t table m)) ≡ performed t.rules (Read name offset len) (run_in t table m)
   unfolding performed
   read-found inside q =
-      sym (ap (λ i. if_inside i (run_in t table m) (bytes_read offset len (live name b (bytes_of b m.bytes)) (run_in t table m))) q) ∙ name-found t table m name b (read_performed t table m offset len) e
+      sym (ap (λ i. if_inside i (run_in t table m) (bytes_read offset len (live_in t m (named name b)) (run_in t table m))) q) ∙ name-found t table m name b (read_performed t table m offset len) e
 
   pub read-out : nat_le (offset + len) b.len ≡ false → Performs t t table table m m (Read name offset len) (Err OutOfBlock)
   read-out q = call-in_fault t table m (Read name offset len) OutOfBlock h (read-found false q)

@@ -6,12 +6,12 @@ use Rattle.std.proofs.lemmas.Bool.Decides.{nat_tests}
 use Rattle.std.specs.List.{slice_range}
 use Rattle.space_core.specs.Runs.{put_run}
 use Rattle.space_core.specs.Words.{filled, write_from}
-use Rattle.space_core.specs.CellRuns.{length-put_run}
+use Rattle.space_core.proofs.CellRuns.{length-put_run}
 use Rattle.layer_rules.specs.declared.Block.{Block}
 use Rattle.layer_rules.specs.Blocks.{end_of, lies_in, is_apart}
 use Rattle.layer_rules.specs.Layering.{KeepsBytes}
 use Rattle.layer_laws.specs.Lawful.{ChangesInside}
-use Rattle.layer_laws.specs.Runs.{put_run-below, put_run-in}
+use Rattle.layer_laws.proofs.Runs.{put_run-below, put_run-in}
 
 slice-at : (xs : List ℕ) (from upto i : ℕ) → i < upto - from → get_or (slice_range xs from upto) i 0 ≡ get_or xs (from + i) 0
 slice-at xs from upto i lt = get_or-take (upto - from) (drop from xs) i 0 lt ∙ get_or-drop from xs i 0

@@ -1,5 +1,6 @@
 -- What a call answers: a fault changes nothing, and a new block is refused exactly where the rules refuse it.
-use Rattle.std.proofs.Common.{◌≡◌, refl, sym, ap, subst, ◌∙◌, ℕ, ◌+◌, zero, suc, ◌≤◌, ◌<◌, ◌⊎◌, inl, inr, ◌↔◌, Bool, true, false, ◌||◌, nat_eq, nat_le, length, Option, Some, None, is_some, is_none, Ok, OnErr, arith}
+use Rattle.std.proofs.Common.{◌≡◌, refl, sym, ap, subst, ◌∙◌, ℕ, ◌+◌, zero, suc, ◌≤◌, ◌<◌, ◌⊎◌, inl, inr, ◌↔◌, Bool, true, false, ◌||◌, nat_eq, nat_le, List, length, Option, Some, None, is_some, is_none, Result, Ok, OnErr, arith}
+use Rattle.std.specs.List.{starts_with}
 use Rattle.std.proofs.lemmas.Bool.Decides.{nat_tests}
 use Rattle.space_core.specs.Cells.{Cells}
 use Rattle.layer_rules.specs.declared.Asked.{Asked}
@@ -7,13 +8,15 @@ use Rattle.layer_rules.specs.declared.Asked.TheVariants as asked
 use Rattle.layer_rules.specs.Rules.{Rules, owns_along}
 use Rattle.layer_rules.specs.State.{State}
 use Rattle.layer_rules.specs.After.{After, Placed, Reallocated, moved_to, emptied, unmoved}
-use Rattle.layer_laws.specs.Lawful.{RefusingLaws, KeptOnNone, KeptOnFalse, KeptUnmoved}
+use Rattle.layer_laws.specs.Lawful.{AnswersRoute, RefusingLaws, KeptOnNone, KeptOnFalse, KeptUnmoved}
 use Rattle.heap_core.specs.declared.Answer.{Answer}
+use Rattle.heap_core.specs.declared.CallFault.{CallFault}
 use Rattle.heap_core.specs.declared.Call.TheVariants.{Allocate, Aligned, Expand, Reallocate, Free, FreeAll, Owns, OwnsAt, Good, Write, Read}
 use Rattle.heap_core.specs.World.{World, Live, live_at}
 use Rattle.heap_core.specs.Performing.{Run, most_live, Performed, under_new_name, on_live, if_offered, if_inside, placed_under, served, grown_under, grown, moved_under, moved, freed, all_freed, owned, asked_at, written, bytes_read, performed}
 use Rattle.heap_core.specs.Steps.{IsHeldRun}
-use Rattle.heap_core.specs.RunFacts.{IsPlaced, IsSameRun, FaultKeepsRun, NullExactly, PlacedElse, AlignedNullExactly, AlignedPlacedElse, RefusedChangesNone}
+use Rattle.heap_core.specs.RunFacts.{IsPlaced, IsSameRun, FaultKeepsRun, NullExactly, PlacedElse, AlignedNullExactly, AlignedPlacedElse, LiveIsOwned, PathsAnswerRoutes, RefusedChangesNone}
+use Rattle.heap_core.proofs.RunBlocks.{each-found}
 use Rattle.heap_core.specs.declared.Answer.TheVariants as answers
 
 -- ---- faults
@@ -47,7 +50,7 @@ module _ (e : Rules) (r : Run) where
   grown-no_fault name delta x s cells true = tt
   grown-no_fault name delta x s cells false = tt
 
-  moved-no_fault : (name : ℕ) (x : Live) (s : State) (cells : Cells) (a : Reallocated) → KeepsInFault r (moved_under name x r.world s cells a)
+  moved-no_fault : (name : ℕ) (x : Live) (s : State) (cells : Cells) (a : Reallocated) → KeepsInFault r (moved_under e name x r.world s cells a)
   moved-no_fault name x s cells (moved_to b) = tt
   moved-no_fault name x s cells emptied = tt
   moved-no_fault name x s cells unmoved = tt
@@ -154,6 +157,40 @@ aligned-placed_else e count leaves name size align r h fresh room offered some s
     rw (performed-fresh_at e name size align r fresh room offered)
     (placed-by name r.world x.state x.cells x.answer (serves-some size (is_none x.answer) (e.refuses_aligned size align r.state r.cells) none some serves))
 
+-- ---- whose a block is
+
+owned-by_rule : (e : Rules) (count leaves name : ℕ) (r : Run) (x : Live) → IsHeldRun e count leaves r → live_at r.world name ≡ Some x → e.offers.owns ≡ true → (e.owns x.block r.state).owned ≡ true
+owned-by_rule e count leaves name r x h q offered =
+    let law = h.made.lawful h.sound.distinct (record { least = h.sound.made.least }) in
+    let out = (each-found (λ (y : Live). e.is_out y.block r.state r.cells ≡ true) r.world name x h.out q).0 in
+    h.made.regular.owning.answer x.block r.state ∙ law.holding.out_held offered x.block r.state r.cells h.sound.settled out
+
+pub live-is_owned : LiveIsOwned
+unfolding performed
+live-is_owned e count leaves name r x h q offered =
+    let y = e.owns x.block r.state in
+    ap (λ (o : Option Live). (on_live o r (λ x. if_offered e.offers.owns r (owned r (e.owns x.block r.state)))).0) q
+    ∙ (ap (λ b. (if_offered b r (owned r y)).0) offered ∙ ap (λ b. let a : Result Answer CallFault = Ok (answers.Said b) in a) (owned-by_rule e count leaves name r x h q offered))
+
+-- what is said at a path's end, of the answer by the rule
+said-along : (r : Run) (path route : List ℕ) (a : Asked) (said : Bool) → AnswersRoute path route a → (asked_at r a).0 ≡ Ok (answers.Said said) → said ≡ starts_with nat_eq route path
+said-along r path route asked.Yes said k h = let yes : said ≡ true = cc in yes ∙ sym (k.yes refl)
+said-along r path route asked.No said k h = let no : said ≡ false = cc in no ∙ sym (k.no refl)
+said-along r path route asked.NotServing said k h = absurd (cc)
+said-along r path route asked.NotOffered said k h = absurd (cc)
+said-along r path route asked.NoSuchLayer said k h = absurd (cc)
+
+pub paths-answer_routes : PathsAnswerRoutes
+unfolding performed
+paths-answer_routes e count leaves name path said r x h q a =
+    let law = h.made.lawful h.sound.distinct (record { least = h.sound.made.least }) in
+    let out = (each-found (λ (y : Live). e.is_out y.block r.state r.cells ≡ true) r.world name x h.out q).0 in
+    let found = (each-found (λ (y : Live). y.route ≡ e.route y.block r.state) r.world name x h.found q).0 in
+    let by_route = law.paths.said_route path x.block r.state r.cells h.sound.settled out in
+    let now : (asked_at r (owns_along e path x.block r.state)).0 ≡ Ok (answers.Said said) =
+    sym (ap (λ (o : Option Live). (on_live o r (λ x. asked_at r (owns_along e path x.block r.state))).0) q) ∙ a in
+    said-along r path x.route (owns_along e path x.block r.state) said (subst (λ route. AnswersRoute path route (owns_along e path x.block r.state)) (sym found) by_route) now
+
 -- ---- refusals
 
 -- an answer that leaves the run but for statistics
@@ -182,10 +219,10 @@ module _ (r : Run) where
   ungrown-same name delta x y true a k q = absurd (cc)
   ungrown-same name delta x y false a k q = record { rest = k a; world = refl }
 
-  unmoved-same : (name : ℕ) (x : Live) (y : After Reallocated) (a : Reallocated) → y.answer ≡ a → KeptUnmoved r.state r.cells y → IsSameAt r (moved_under name x r.world y.state y.cells a) (answers.Said false)
-  unmoved-same name x y (moved_to b) a k q = absurd (cc)
-  unmoved-same name x y emptied a k q = absurd (cc)
-  unmoved-same name x y unmoved a k q = record { rest = k a; world = refl }
+  unmoved-same : (e : Rules) (name : ℕ) (x : Live) (y : After Reallocated) (a : Reallocated) → y.answer ≡ a → KeptUnmoved r.state r.cells y → IsSameAt r (moved_under e name x r.world y.state y.cells a) (answers.Said false)
+  unmoved-same e name x y (moved_to b) a k q = absurd (cc)
+  unmoved-same e name x y emptied a k q = absurd (cc)
+  unmoved-same e name x y unmoved a k q = record { rest = k a; world = refl }
 
 module _ (e : Rules) (r : Run) (k : RefusingLaws e) where
   allocate-same : (name size : ℕ) → IsSameAt r (performed e (Allocate name size) r) answers.Null
@@ -210,8 +247,8 @@ module _ (e : Rules) (r : Run) (k : RefusingLaws e) where
   reallocate-same : (name size : ℕ) → IsSameAt r (performed e (Reallocate name size) r) (answers.Said false)
   unfolding performed
   reallocate-same name size =
-      live-same r (live_at r.world name) (λ x. moved name x r.world (e.reallocate size x.block r.state r.cells)) (answers.Said false)
-      (λ x. let y = e.reallocate size x.block r.state r.cells in unmoved-same r name x y y.answer refl (k.reallocate size x.block r.state r.cells))
+      live-same r (live_at r.world name) (λ x. moved e name x r.world (e.reallocate size x.block r.state r.cells)) (answers.Said false)
+      (λ x. let y = e.reallocate size x.block r.state r.cells in unmoved-same r e name x y y.answer refl (k.reallocate size x.block r.state r.cells))
 
 pub refused-changes_none : RefusedChangesNone
 refused-changes_none e count leaves r h =

@@ -3,22 +3,17 @@ use Rattle.std.proofs.Common.{◌≡◌, ◌≢◌, refl, subst, ℕ, ◌*◌, �
 use Rattle.std.proofs.lemmas.Bool.Decides.{nat_tests}
 use Rattle.space_core.specs.Cells.{cell_size}
 use Rattle.layer_rules.specs.Blocks.{end_of, lies_in, is_apart}
-use Rattle.layer_rules.specs.Rows.{Each, EachPair}
+use Rattle.layer_rules.specs.Rows.{Each}
 use Rattle.layer_rules.specs.Rules.{Rules, HasSomeTags}
-use Rattle.layer_laws.specs.CellRooms.{rest_of_multiple}
-use Rattle.layer_laws.specs.StandingLaws.{out-in_range}
+use Rattle.layer_laws.proofs.CellRooms.{rest_of_multiple}
+use Rattle.layer_laws.proofs.StandingLaws.{out-in_range}
 use Rattle.layer_laws.specs.Lawful.{IsLawful}
 use Rattle.heap_core.specs.World.{World, Live, live_at}
 use Rattle.heap_core.specs.Performing.{Run}
 use Rattle.heap_core.specs.Steps.{IsHeldRun}
-use Rattle.heap_core.specs.RunFacts.{RunHasBlocks, NamesShareNoByte}
+use Rattle.heap_core.specs.RunFacts.{RunHasBlocks, RunFindsBlocks, NamesShareNoByte}
 use Rattle.heap_core.proofs.ByteLemmas.{inner-apart, apart-flip}
-use Rattle.heap_core.proofs.WorldLemmas.{each-from, each-both, each-live_other}
-
--- what two blocks of which P holds make of R
-pub each_pair-under : (P : Live → Type 0) (R S : Live → Live → Type 0) (w : World) → ((x y : Live) → P x → P y → R x y → S x y) → Each P w → EachPair R w → EachPair S w
-each_pair-under P R S [] f h k = tt
-each_pair-under P R S (x ∷ w) f h k = (each-both P (R x) (S x) w (λ y p r. f x y h.0 p r) h.1 k.0, each_pair-under P R S w f h.1 k.1)
+use Rattle.heap_core.proofs.WorldLemmas.{each-from, each_pair-under, each-live_other}
 
 module _ (e : Rules) (count leaves : ℕ) (r : Run) (h : IsHeldRun e count leaves r) where
   tags : HasSomeTags e
@@ -57,6 +52,9 @@ run-has_blocks e count leaves r h =
       apart = each_pair-under out (λ (x y : Live). is_apart (e.extent x.block r.state) (e.extent y.block r.state) ≡ true) (λ (x y : Live). is_apart x.block y.block ≡ true) r.world
           (share-none e count leaves r h) h.out h.apart;
     }
+
+pub run-finds_blocks : RunFindsBlocks
+run-finds_blocks e count leaves r h = record { routes = h.found }
 
 -- ---- by names
 

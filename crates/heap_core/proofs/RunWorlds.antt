@@ -5,7 +5,7 @@ use Rattle.std.proofs.lemmas.List.{length-take, length-replicate}
 use Rattle.std.proofs.lemmas.Bool.Decides.{nat_tests}
 use Rattle.space_core.specs.Cells.{Cells}
 use Rattle.space_core.specs.Words.{write_from}
-use Rattle.space_core.specs.Writes.{length-write_from}
+use Rattle.space_core.proofs.Writes.{length-write_from}
 use Rattle.layer_rules.specs.declared.Asked.{Asked}
 use Rattle.layer_rules.specs.declared.Asked.TheVariants as asked
 use Rattle.layer_rules.specs.declared.Block.{Block}
@@ -14,8 +14,9 @@ use Rattle.layer_rules.specs.Rows.{Each, EachPair}
 use Rattle.layer_rules.specs.Rules.{Rules, longer_if, owns_along}
 use Rattle.layer_rules.specs.State.{State}
 use Rattle.layer_rules.specs.After.{After, Placed, Reallocated, moved_to, emptied, unmoved}
-use Rattle.layer_rules.specs.Layering.{IsOutOf}
-use Rattle.layer_laws.specs.StandingLaws.{out-in_space}
+use Rattle.space_core.specs.Memory.{Memory}
+use Rattle.layer_rules.specs.Layering.{LayerModel, IsOutOf}
+use Rattle.layer_laws.proofs.StandingLaws.{out-in_space}
 use Rattle.heap_core.specs.declared.Named.{Named}
 use Rattle.heap_core.specs.declared.Call.{Call}
 use Rattle.heap_core.specs.declared.Call.TheVariants.{Allocate, Aligned, Expand, Reallocate, Free, FreeAll, Owns, OwnsAt, Good, Write, Read}
@@ -36,18 +37,18 @@ use Rattle.heap_core.proofs.RunSteps.{opened-held_run, performed-held}
 -- holds of a new block, of one with another length, and after a write that may be.
 pub record IsKept (P : World → Type 0) (Q : Live → Type 0) (May : Call → Type 0) : Type 0 where
   pub more : (w : World) (x : Live) → Q x → live_at w x.name ≡ None → nat_le most_live (length w) ≡ false → P w → P (with_live x w)
-  pub other : (w : World) (name : ℕ) (was : Live) (b : Block) (bytes : List ℕ) → live_at w name ≡ Some was → Q (live name b bytes) → P w → P (replaced (live name b bytes) w)
+  pub other : (w : World) (name : ℕ) (was : Live) (b : Block) (bytes route : List ℕ) → live_at w name ≡ Some was → Q (live name b bytes route) → P w → P (replaced (live name b bytes route) w)
   pub less : (w : World) (name : ℕ) → P w → P (without name w)
   pub none : P []
   pub has : (w : World) (name : ℕ) (x : Live) → P w → live_at w name ≡ Some x → Q x
-  pub zeros : (name : ℕ) (b : Block) → Q (live name b (replicate b.len 0))
-  pub sized : (name : ℕ) (x : Live) (b : Block) → Q x → Q (live name b (resized x b.len))
-  pub given : (name offset : ℕ) (given : List ℕ) (x : Live) → May (Write name offset given) → Q x → Q (live name x.block (write_from x.bytes offset given))
+  pub zeros : (name : ℕ) (b : Block) (route : List ℕ) → Q (live name b (replicate b.len 0) route)
+  pub sized : (name : ℕ) (x : Live) (b : Block) (route : List ℕ) → Q x → Q (live name b (resized x b.len) route)
+  pub given : (name offset : ℕ) (given : List ℕ) (x : Live) → May (Write name offset given) → Q x → Q (live name x.block (write_from x.bytes offset given) x.route)
 
 module _ (P : World → Type 0) (Q : Live → Type 0) (May : Call → Type 0) (k : IsKept P Q May) (e : Rules) (r : Run) (p : P r.world) where
   placed-kept : (name : ℕ) (s : State) (cells : Cells) (o : Option Placed) → live_at r.world name ≡ None → nat_le most_live (length r.world) ≡ false → P (placed_under name r.world s cells o).1.world
   placed-kept name s cells None q few = p
-  placed-kept name s cells (Some x) q few = k.more r.world (live name x.block (replicate x.block.len 0)) (k.zeros name x.block) q few p
+  placed-kept name s cells (Some x) q few = k.more r.world (live name x.block (replicate x.block.len 0) x.route) (k.zeros name x.block x.route) q few p
 
   new-kept : (name : ℕ) (offered : Bool) (x : After (Option Placed)) (o : Option Live) (many : Bool) → live_at r.world name ≡ o → nat_le most_live (length r.world) ≡ many
       → P (under_new_name (is_some o) many r (if_offered offered r (served name r.world x))).1.world
@@ -58,7 +59,7 @@ module _ (P : World → Type 0) (Q : Live → Type 0) (May : Call → Type 0) (k
 
   grown-kept : (name delta : ℕ) (x : Live) (s : State) (cells : Cells) (done : Bool) → live_at r.world name ≡ Some x → P (grown_under name delta x r.world s cells done).1.world
   grown-kept name delta x s cells true q =
-      let b = longer_if true delta x.block in k.other r.world name x b (resized x b.len) q (k.sized name x b (k.has r.world name x p q)) p
+      let b = longer_if true delta x.block in k.other r.world name x b (resized x b.len) x.route q (k.sized name x b x.route (k.has r.world name x p q)) p
   grown-kept name delta x s cells false q = p
 
   expand-kept : (name delta : ℕ) (o : Option Live) (offered : Bool) → live_at r.world name ≡ o → P (on_live o r (λ x. if_offered offered r (grown name delta x r.world (e.expand delta x.block r.state r.cells)))).1.world
@@ -66,12 +67,12 @@ module _ (P : World → Type 0) (Q : Live → Type 0) (May : Call → Type 0) (k
   expand-kept name delta (Some x) false q = p
   expand-kept name delta (Some x) true q = let y = e.expand delta x.block r.state r.cells in grown-kept name delta x y.state y.cells y.answer q
 
-  moved-kept : (name : ℕ) (x : Live) (s : State) (cells : Cells) (a : Reallocated) → live_at r.world name ≡ Some x → P (moved_under name x r.world s cells a).1.world
-  moved-kept name x s cells (moved_to b) q = k.other r.world name x b (resized x b.len) q (k.sized name x b (k.has r.world name x p q)) p
+  moved-kept : (name : ℕ) (x : Live) (s : State) (cells : Cells) (a : Reallocated) → live_at r.world name ≡ Some x → P (moved_under e name x r.world s cells a).1.world
+  moved-kept name x s cells (moved_to b) q = let route = e.route b s in k.other r.world name x b (resized x b.len) route q (k.sized name x b route (k.has r.world name x p q)) p
   moved-kept name x s cells emptied q = k.less r.world name p
   moved-kept name x s cells unmoved q = p
 
-  reallocate-kept : (name size : ℕ) (o : Option Live) → live_at r.world name ≡ o → P (on_live o r (λ x. moved name x r.world (e.reallocate size x.block r.state r.cells))).1.world
+  reallocate-kept : (name size : ℕ) (o : Option Live) → live_at r.world name ≡ o → P (on_live o r (λ x. moved e name x r.world (e.reallocate size x.block r.state r.cells))).1.world
   reallocate-kept name size None q = p
   reallocate-kept name size (Some x) q = let y = e.reallocate size x.block r.state r.cells in moved-kept name x y.state y.cells y.answer q
 
@@ -100,7 +101,7 @@ module _ (P : World → Type 0) (Q : Live → Type 0) (May : Call → Type 0) (k
   owns_at-kept path (Some x) = asked-kept (owns_along e path x.block r.state)
 
   inside-kept : (name offset : ℕ) (given : List ℕ) (x : Live) (inside : Bool) → live_at r.world name ≡ Some x → May (Write name offset given) → P (if_inside inside r (written name offset given x r)).1.world
-  inside-kept name offset given x true q may = k.other r.world name x x.block (write_from x.bytes offset given) q (k.given name offset given x may (k.has r.world name x p q)) p
+  inside-kept name offset given x true q may = k.other r.world name x x.block (write_from x.bytes offset given) x.route q (k.given name offset given x may (k.has r.world name x p q)) p
   inside-kept name offset given x false q may = p
 
   write-kept : (name offset : ℕ) (given : List ℕ) (o : Option Live) → live_at r.world name ≡ o → May (Write name offset given)
@@ -217,13 +218,13 @@ AnyCall call = ⊤
 world-kept : IsKept IsWorld HasBytes AnyCall
 world-kept = record {
   more = λ w x q fresh few h. world-more w x q fresh (grind (arith, nat_tests)) h;
-  other = λ w name was b bytes found q h.
-      world-more (without name w) (live name b bytes) q (live-without_same name w) (omega (arith, length-less name w was found, h.most)) (world-less w name h);
+  other = λ w name was b bytes route found q h.
+      world-more (without name w) (live name b bytes route) q (live-without_same name w) (omega (arith, length-less name w was found, h.most)) (world-less w name h);
   less = world-less;
   none = record { rising = tt; most = omega arith; whole = tt };
   has = λ w name x h found. (each-found HasBytes w name x h.whole found).0;
-  zeros = λ name b. length-replicate b.len 0;
-  sized = λ name x b q. length-resized x b.len q;
+  zeros = λ name b route. length-replicate b.len 0;
+  sized = λ name x b route q. length-resized x b.len q;
   given = λ name offset given x may q. length-write_from x.bytes offset given ∙ q;
 }
 
@@ -252,12 +253,12 @@ zeros-less w name h = record { zeros = each-live_without HasZeros name w (each-f
 zeros-kept : IsKept IsZeroed HasZeros WritesNone
 zeros-kept = record {
   more = λ w x q fresh few h. zeros-with w x q h;
-  other = λ w name was b bytes found q h. zeros-with (without name w) (live name b bytes) q (zeros-less w name h);
+  other = λ w name was b bytes route found q h. zeros-with (without name w) (live name b bytes route) q (zeros-less w name h);
   less = zeros-less;
   none = record { zeros = tt };
   has = λ w name x h found. (each-found HasZeros w name x h.zeros found).0;
-  zeros = λ name b. refl;
-  sized = λ name x b q. ap (λ bytes. take b.len bytes ++ zeros (b.len - x.block.len)) q ∙ zeros-resized b.len x.block.len;
+  zeros = λ name b route. refl;
+  sized = λ name x b route q. ap (λ bytes. take b.len bytes ++ zeros (b.len - x.block.len)) q ∙ zeros-resized b.len x.block.len;
   given = λ name offset given x may q. absurd may;
 }
 
@@ -275,14 +276,14 @@ run-begins e need cells leaves o p d m n q =
 
 -- ---- what a heap holds
 
-above-world : (n : ℕ) (table : List Named) (bytes : List ℕ) → ((i : ℕ) → i < length table → n < name_at table i) → Each (λ (y : Live). n < y.name) (world_of table bytes)
-above-world n [] bytes h = tt
-above-world n (x ∷ table) bytes h = (h 0 (omega arith), above-world n table bytes (λ i lt. h (suc i) (omega arith)))
+above-world : (n : ℕ) (t : LayerModel) (table : List Named) (m : Memory) → ((i : ℕ) → i < length table → n < name_at table i) → Each (λ (y : Live). n < y.name) (world_of t table m)
+above-world n t [] m h = tt
+above-world n t (x ∷ table) m h = (h 0 (omega arith), above-world n t table m (λ i lt. h (suc i) (omega arith)))
 
-rising-world : (table : List Named) (bytes : List ℕ) → IsRising table → EachPair Rises (world_of table bytes)
-rising-world [] bytes h = tt
-rising-world (x ∷ table) bytes h =
-    (above-world x.name table bytes (λ i lt. h 0 (suc i) (omega arith) (omega arith)), rising-world table bytes (λ i j lt in_range. h (suc i) (suc j) (omega arith) (omega arith)))
+rising-world : (t : LayerModel) (table : List Named) (m : Memory) → IsRising table → EachPair Rises (world_of t table m)
+rising-world t [] m h = tt
+rising-world t (x ∷ table) m h =
+    (above-world x.name t table m (λ i lt. h 0 (suc i) (omega arith) (omega arith)), rising-world t table m (λ i j lt in_range. h (suc i) (suc j) (omega arith) (omega arith)))
 
 length-bytes : (b : Block) (bytes : List ℕ) → end_of b ≤ length bytes → length (bytes_of b bytes) ≡ b.len
 length-bytes b bytes h =
@@ -290,16 +291,16 @@ length-bytes b bytes h =
     let rest = length-drop b.place bytes in
     omega (arith, all, rest)
 
-whole-world : (table : List Named) (bytes : List ℕ) → Each (λ (x : Named). end_of x.block ≤ length bytes) table → Each HasBytes (world_of table bytes)
-whole-world [] bytes h = tt
-whole-world (x ∷ table) bytes h = (length-bytes x.block bytes h.0, whole-world table bytes h.1)
+whole-world : (t : LayerModel) (table : List Named) (m : Memory) → Each (λ (x : Named). end_of x.block ≤ length m.bytes) table → Each HasBytes (world_of t table m)
+whole-world t [] m h = tt
+whole-world t (x ∷ table) m h = (length-bytes x.block m.bytes h.0, whole-world t table m h.1)
 
 pub held-is_run : HeldIsRun
 held-is_run t table m k h = record {
   held = held-run t table m h;
   world = record {
-    rising = rising-world table m.bytes k.rising;
-    most = omega (arith, length-world table m.bytes, k.most);
-    whole = whole-world table m.bytes (each-from (λ (x : Named). IsOutOf t m x.block) (λ (x : Named). end_of x.block ≤ length m.bytes) table (λ x o. out-in_space t m x.block h.layer h.stands o) h.out);
+    rising = rising-world t table m k.rising;
+    most = omega (arith, length-world t table m, k.most);
+    whole = whole-world t table m (each-from (λ (x : Named). IsOutOf t m x.block) (λ (x : Named). end_of x.block ≤ length m.bytes) table (λ x o. out-in_space t m x.block h.layer h.stands o) h.out);
   };
 }

@@ -11,8 +11,8 @@ use Rattle.layer_rules.specs.Rows.{Each, EachPair}
 use Rattle.layer_rules.specs.State.{State}
 use Rattle.layer_rules.specs.Layering.{LayerModel, state_of, Stands, IsSetUp, IsShut, IsOutOf, IsCleanOf, IsMarkedOf, AreApartIn, KeepsBytes, SetsUp}
 use Rattle.layer_laws.specs.Lawful.{IsMade}
-use Rattle.layer_laws.specs.Standing.{extent_of}
-use Rattle.layer_laws.specs.StandingLaws.{set_up-stands}
+use Rattle.layer_laws.specs.Standing.{extent_of, route_of}
+use Rattle.layer_laws.proofs.StandingLaws.{set_up-stands}
 use Rattle.heap_core.specs.declared.Named.{Named}
 use Rattle.heap_core.specs.declared.Call.{Call}
 use Rattle.heap_core.specs.declared.Answer.{Answer}
@@ -22,9 +22,9 @@ use Rattle.heap_core.specs.World.{World, Live, live, live_at, is_live, with_live
 use Rattle.heap_core.specs.Names.{named, named_at, with_named, without_name, block_of}
 use Rattle.heap_core.specs.Performing.{IsCall, Run, run_of, most_live, Performed, under_new_name, on_live, IsAnswerTo, performed}
 use Rattle.heap_core.specs.Moves.{Moves}
-use Rattle.heap_core.specs.Holding.{bytes_of, world_of, run_in, Held}
+use Rattle.heap_core.specs.Holding.{bytes_of, live_in, world_of, run_in, Held}
 use Rattle.heap_core.specs.Heap.{Performs, MayBegin, IsNewFault}
-use Rattle.heap_core.proofs.WorldLemmas.{length-world, is_live-world, live-none, live-some, world-with, world-without, world-same, each-from, each-both, each_pair-from, each-at, each-with, each_pair-with, each-without, each_pair-without, each-other}
+use Rattle.heap_core.proofs.WorldLemmas.{length-world, is_live-world, live-none, live-some, world-with, world-without, world-same, each-from, each-both, each_pair-under, each-at, each-with, each_pair-with, each-without, each_pair-without, each-other}
 use Rattle.heap_core.proofs.ByteLemmas.{slice-same, apart-flip}
 use Rattle.heap_core.proofs.HeldLemmas.{held-run}
 use Rattle.heap_core.proofs.RunSteps.{performed-moves}
@@ -48,8 +48,8 @@ handed-on (Err g) f h = ap (λ x. let y : Result Answer CallFault = Err x in y) 
 -- ---- extents
 
 -- what is apart stays apart where the extents stay
-pub apart-moved : (t t' : LayerModel) (m m' : Memory) → ((c : Block) → extent_of t' m' c ≡ extent_of t m c) → (b c : Block) → AreApartIn t m b c → AreApartIn t' m' b c
-apart-moved t t' m m' same b c a = record { either = rw (same b, same c) a.either }
+pub apart-moved : (t t' : LayerModel) (m m' : Memory) (b c : Block) → extent_of t' m' b ≡ extent_of t m b → extent_of t' m' c ≡ extent_of t m c → AreApartIn t m b c → AreApartIn t' m' b c
+apart-moved t t' m m' b c p q a = record { either = rw (p, q) a.either }
 
 pub apart-turned : (t : LayerModel) (m : Memory) (b c : Block) → AreApartIn t m b c → AreApartIn t m c b
 apart-turned t m b c a = record { either = apart-flip (extent_of t m b) (extent_of t m c) a.either }
@@ -65,7 +65,7 @@ begins-held t t' m m' r l l' h s o a = record { layer = l'; opened = a.opened �
 pub call-answered : (t t' : LayerModel) (table table' : List Named) (m m' : Memory) (call : Call) (a : Answer) → Held t table m → Held t' table' m' → length m'.bytes ≡ length m.bytes → t'.rules ≡ t.rules → IsCall call
     → IsAnswerTo call a → (Ok a, run_in t' table' m') ≡ performed t.rules call (run_in t table m) → Performs t t' table table' m m' call (Ok a)
 call-answered t t' table table' m m' call a h h' size rules c kind e =
-    let P : Performed → Type 0 = λ p. IfOk p.0 (λ answer. Moves t.rules.alignment (length m.cells.tags) (world_of table m.bytes) call answer p.1.world) in
+    let P : Performed → Type 0 = λ p. IfOk p.0 (λ answer. Moves t.rules.alignment (length m.cells.tags) (world_of t table m) call answer p.1.world) in
     record {
       after = e;
       held = h';
@@ -80,43 +80,43 @@ pub call-in_fault : (t : LayerModel) (table : List Named) (m : Memory) (call : C
 call-in_fault t table m call f h e = record { after = e; held = h; kind = tt; fault = (refl, refl); moves = tt; shape = refl }
 
 -- an answer with the run that the rules give
-pub answer-is : (a : Answer) (t' : LayerModel) (table' : List Named) (m' : Memory) (s : State) (cells : Cells) (w : World) → state_of t' m' ≡ s → m'.cells ≡ cells → world_of table' m'.bytes ≡ w
+pub answer-is : (a : Answer) (t' : LayerModel) (table' : List Named) (m' : Memory) (s : State) (cells : Cells) (w : World) → state_of t' m' ≡ s → m'.cells ≡ cells → world_of t' table' m' ≡ w
     → (let p : Performed = (Ok a, run_in t' table' m') in p) ≡ (Ok a, run_of s cells w)
 answer-is a t' table' m' s cells w p q u =
     let run : run_in t' table' m' ≡ run_of s cells w =
-    ap (λ s. run_of s m'.cells (world_of table' m'.bytes)) p ∙ (ap (λ c. run_of s c (world_of table' m'.bytes)) q ∙ ap (run_of s cells) u) in
+    ap (λ s. run_of s m'.cells (world_of t' table' m')) p ∙ (ap (λ c. run_of s c (world_of t' table' m')) q ∙ ap (run_of s cells) u) in
     ap (λ (r : Run). let q : Performed = (Ok a, r) in q) run
 
 -- ---- the faults of names
 
 module _ (t : LayerModel) (table : List Named) (m : Memory) (name : ℕ) where
   abbrev many : Bool
-  many = nat_le most_live (length (world_of table m.bytes))
+  many = nat_le most_live (length (world_of t table m))
 
   -- a call for a new name, where it is live or not
-  new_name-is : (p : Performed) (b : Bool) → is_some (named_at table name) ≡ b → under_new_name (is_live (world_of table m.bytes) name) many (run_in t table m) p ≡ under_new_name b many (run_in t table m) p
-  new_name-is p b e = ap (λ b. under_new_name b many (run_in t table m) p) (is_live-world table m.bytes name ∙ e)
+  new_name-is : (p : Performed) (b : Bool) → is_some (named_at table name) ≡ b → under_new_name (is_live (world_of t table m) name) many (run_in t table m) p ≡ under_new_name b many (run_in t table m) p
+  new_name-is p b e = ap (λ b. under_new_name b many (run_in t table m) p) (is_live-world t table m name ∙ e)
 
   pub new-fault : (p : Performed) (f : CallFault) → IsNewFault table name f
-      → (let q : Performed = (Err f, run_in t table m) in q) ≡ under_new_name (is_live (world_of table m.bytes) name) many (run_in t table m) p
+      → (let q : Performed = (Err f, run_in t table m) in q) ≡ under_new_name (is_live (world_of t table m) name) many (run_in t table m) p
   new-fault p NameLive e = sym (new_name-is p true e)
   new-fault p TooManyLive e =
-      let k : many ≡ true = let full = e.1 in rw (length-world table m.bytes) (grind (arith, nat_tests)) in
+      let k : many ≡ true = let full = e.1 in rw (length-world t table m) (grind (arith, nat_tests)) in
       sym (new_name-is p false (ap is_some e.0) ∙ ap (λ b. under_new_name false b (run_in t table m) p) k)
   new-fault p _ e = absurd e
 
-  pub name-fresh : (p : Performed) → MayBegin table name → p ≡ under_new_name (is_live (world_of table m.bytes) name) many (run_in t table m) p
+  pub name-fresh : (p : Performed) → MayBegin table name → p ≡ under_new_name (is_live (world_of t table m) name) many (run_in t table m) p
   name-fresh p e =
-      let k : many ≡ false = let room = e.room in rw (length-world table m.bytes) (grind (arith, nat_tests)) in
+      let k : many ≡ false = let room = e.room in rw (length-world t table m) (grind (arith, nat_tests)) in
       sym (new_name-is p false (ap is_some e.fresh) ∙ ap (λ b. under_new_name false b (run_in t table m) p) k)
 
   pub fault-not_live : (p : Live → Performed) → named_at table name ≡ None
-      → (let q : Performed = (Err NameNotLive, run_in t table m) in q) ≡ on_live (live_at (world_of table m.bytes) name) (run_in t table m) p
-  fault-not_live p e = sym (ap (λ o. on_live o (run_in t table m) p) (live-none table m.bytes name e))
+      → (let q : Performed = (Err NameNotLive, run_in t table m) in q) ≡ on_live (live_at (world_of t table m) name) (run_in t table m) p
+  fault-not_live p e = sym (ap (λ o. on_live o (run_in t table m) p) (live-none t table m name e))
 
   pub name-found : (b : Block) (p : Live → Performed) → named_at table name ≡ Some b
-      → p (live name b (bytes_of b m.bytes)) ≡ on_live (live_at (world_of table m.bytes) name) (run_in t table m) p
-  name-found b p e = sym (ap (λ o. on_live o (run_in t table m) p) (live-some table m.bytes name b e))
+      → p (live_in t m (named name b)) ≡ on_live (live_at (world_of t table m) name) (run_in t table m) p
+  name-found b p e = sym (ap (λ o. on_live o (run_in t table m) p) (live-some t table m name b e))
 
 -- ---- a live block
 
@@ -142,6 +142,8 @@ live-marked t table m name b h e =
 
 pub record IsLeft (t t' : LayerModel) (m m' : Memory) (c : Block) : Type 0 where
   pub out : IsOutOf t' m' c
+  pub extent : extent_of t' m' c ≡ extent_of t m c
+  pub route : route_of t' m' c ≡ route_of t m c
   pub clean : IsCleanOf t' m' c
   pub bytes : KeepsBytes m.bytes m'.bytes c.place (end_of c)
 
@@ -151,15 +153,16 @@ pub record IsAgain (t t' : LayerModel) (m m' : Memory) : Type 0 where
   pub opened : IsSetUp t'
   pub stands : Stands t' m'
   pub size : length m'.bytes ≡ length m.bytes
-  pub extents : (c : Block) → extent_of t' m' c ≡ extent_of t m c
 
 module _ (t t' : LayerModel) (m m' : Memory) (g : IsAgain t t' m m') where
-  -- blocks that are left keep their bytes
-  pub left-world : (table : List Named) → Each (λ (x : Named). IsLeft t t' m m' x.block) table → world_of table m'.bytes ≡ world_of table m.bytes
-  left-world table k =
-      world-same table m.bytes m'.bytes
-      (each-from (λ (x : Named). IsLeft t t' m m' x.block) (λ (x : Named). bytes_of x.block m'.bytes ≡ bytes_of x.block m.bytes) table
-      (λ x l. slice-same m.bytes m'.bytes x.block.place (end_of x.block) g.size l.bytes) k)
+  -- blocks that are left keep their bytes and their routes
+  left-live : (x : Named) → IsLeft t t' m m' x.block → live_in t' m' x ≡ live_in t m x
+  left-live x l =
+      let b = x.block in
+      ap (λ bytes. live x.name b bytes (route_of t' m' b)) (slice-same m.bytes m'.bytes b.place (end_of b) g.size l.bytes) ∙ ap (live x.name b (bytes_of b m.bytes)) l.route
+
+  pub left-world : (table : List Named) → Each (λ (x : Named). IsLeft t t' m m' x.block) table → world_of t' table m' ≡ world_of t table m
+  left-world table k = world-same t t' table m m' (each-from (λ (x : Named). IsLeft t t' m m' x.block) (λ (x : Named). live_in t' m' x ≡ live_in t m x) table left-live k)
 
   -- a heap of blocks that are left
   pub left-held : (table : List Named) → Each (λ (x : Named). IsLeft t t' m m' x.block) table → EachPair (λ (x y : Named). AreApartIn t m x.block y.block) table → Held t' table m'
@@ -169,12 +172,13 @@ module _ (t t' : LayerModel) (m m' : Memory) (g : IsAgain t t' m m') where
     stands = g.stands;
     out = each-from (λ (x : Named). IsLeft t t' m m' x.block) (λ (x : Named). IsOutOf t' m' x.block) table (λ x l. l.out) k;
     clean = each-from (λ (x : Named). IsLeft t t' m m' x.block) (λ (x : Named). IsCleanOf t' m' x.block) table (λ x l. l.clean) k;
-    apart = each_pair-from (λ (x y : Named). AreApartIn t m x.block y.block) (λ (x y : Named). AreApartIn t' m' x.block y.block) table (λ x y. apart-moved t t' m m' g.extents x.block y.block) apart;
+    apart = each_pair-under (λ (x : Named). IsLeft t t' m m' x.block) (λ (x y : Named). AreApartIn t m x.block y.block) (λ (x y : Named). AreApartIn t' m' x.block y.block) table
+        (λ x y p q. apart-moved t t' m m' x.block y.block p.extent q.extent) k apart;
   }
 
   -- with one more block, apart from them
   pub more-held : (table : List Named) (x : Named) → Each (λ (y : Named). IsLeft t t' m m' y.block) table → EachPair (λ (y z : Named). AreApartIn t m y.block z.block) table
-      → IsOutOf t' m' x.block → IsCleanOf t' m' x.block → Each (λ (y : Named). AreApartIn t m x.block y.block) table → Held t' (with_named x table) m'
+      → IsOutOf t' m' x.block → IsCleanOf t' m' x.block → Each (λ (y : Named). AreApartIn t' m' x.block y.block) table → Held t' (with_named x table) m'
   more-held table x k apart out clean beside =
       let h = left-held table k apart in
       record {
@@ -183,13 +187,12 @@ module _ (t t' : LayerModel) (m m' : Memory) (g : IsAgain t t' m m') where
         stands = g.stands;
         out = each-with (λ (y : Named). IsOutOf t' m' y.block) x table out h.out;
         clean = each-with (λ (y : Named). IsCleanOf t' m' y.block) x table clean h.clean;
-        apart = each_pair-with (λ (y z : Named). AreApartIn t' m' y.block z.block) (λ y z. apart-turned t' m' y.block z.block) x table
-            (each-from (λ (y : Named). AreApartIn t m x.block y.block) (λ (y : Named). AreApartIn t' m' x.block y.block) table (λ y. apart-moved t t' m m' g.extents x.block y.block) beside) h.apart;
+        apart = each_pair-with (λ (y z : Named). AreApartIn t' m' y.block z.block) (λ y z. apart-turned t' m' y.block z.block) x table beside h.apart;
       }
 
   pub more-world : (table : List Named) (x : Named) → Each (λ (y : Named). IsLeft t t' m m' y.block) table
-      → world_of (with_named x table) m'.bytes ≡ with_live (live x.name x.block (bytes_of x.block m'.bytes)) (world_of table m.bytes)
-  more-world table x k = world-with x table m'.bytes ∙ ap (with_live (live x.name x.block (bytes_of x.block m'.bytes))) (left-world table k)
+      → world_of t' (with_named x table) m' ≡ with_live (live_in t' m' x) (world_of t table m)
+  more-world table x k = world-with t' x table m' ∙ ap (with_live (live_in t' m' x)) (left-world table k)
 
 -- ---- all live blocks, and all but one
 
@@ -223,16 +226,16 @@ module _ (t t' : LayerModel) (table : List Named) (m m' : Memory) (name : ℕ) (
   pub freed-held : Held t' (without_name name table) m'
   freed-held = left-held t t' m m' g (without_name name table) others-left others-apart
 
-  pub freed-world : world_of (without_name name table) m'.bytes ≡ without name (world_of table m.bytes)
-  freed-world = left-world t t' m m' g (without_name name table) others-left ∙ world-without name table m.bytes
+  pub freed-world : world_of t' (without_name name table) m' ≡ without name (world_of t table m)
+  freed-world = left-world t t' m m' g (without_name name table) others-left ∙ world-without t name table m
 
   -- another block, or other bytes, under the name
-  pub changed-held : (c : Block) → IsOutOf t' m' c → IsCleanOf t' m' c → ((d : Block) → IsOutOf t m d → AreApartIn t m b d → AreApartIn t m c d) → Held t' (with_named (named name c) (without_name name table)) m'
+  pub changed-held : (c : Block) → IsOutOf t' m' c → IsCleanOf t' m' c → ((d : Block) → IsOutOf t m d → AreApartIn t m b d → AreApartIn t' m' c d) → Held t' (with_named (named name c) (without_name name table)) m'
   changed-held c out clean fresh =
       more-held t t' m m' g (without_name name table) (named name c) others-left others-apart out clean
-      (each-from (λ (x : Named). IsOther t m b x.block) (λ (x : Named). AreApartIn t m c x.block) (without_name name table) (λ x o. fresh x.block o.out o.apart) (each_other t table m name b h e))
+      (each-from (λ (x : Named). IsOther t m b x.block) (λ (x : Named). AreApartIn t' m' c x.block) (without_name name table) (λ x o. fresh x.block o.out o.apart) (each_other t table m name b h e))
 
-  pub changed-world : (c : Block) → world_of (with_named (named name c) (without_name name table)) m'.bytes ≡ replaced (live name c (bytes_of c m'.bytes)) (world_of table m.bytes)
+  pub changed-world : (c : Block) → world_of t' (with_named (named name c) (without_name name table)) m' ≡ replaced (live_in t' m' (named name c)) (world_of t table m)
   changed-world c =
       more-world t t' m m' g (without_name name table) (named name c) others-left
-      ∙ ap (with_live (live name c (bytes_of c m'.bytes))) (world-without name table m.bytes)
+      ∙ ap (with_live (live_in t' m' (named name c))) (world-without t name table m)

@@ -2,12 +2,15 @@
 use Rattle.std.proofs.Common.{◌≡◌, ◌≢◌, refl, ap, subst, ◌∙◌, ℕ, Bool, true, false, not, nat_eq, nat_lt, cond, if◌then◌else◌, List, [], ◌∷◌, length, Option, Some, None, is_some, arith}
 use Rattle.std.proofs.lemmas.List.{length-map}
 use Rattle.std.proofs.lemmas.Bool.Decides.{nat_tests}
+use Rattle.space_core.specs.Memory.{Memory}
 use Rattle.layer_rules.specs.declared.Block.{Block}
+use Rattle.layer_rules.specs.Layering.{LayerModel}
+use Rattle.layer_laws.specs.Standing.{route_of}
 use Rattle.layer_rules.specs.Rows.{Each, EachPair}
 use Rattle.heap_core.specs.declared.Named.{Named}
-use Rattle.heap_core.specs.World.{World, Live, live, live_at, is_live, with_live, without}
-use Rattle.heap_core.specs.Names.{named_at, with_named, without_name}
-use Rattle.heap_core.specs.Holding.{bytes_of, world_of}
+use Rattle.heap_core.specs.World.{World, Live, live_at, is_live, with_live, without}
+use Rattle.heap_core.specs.Names.{named, named_at, with_named, without_name}
+use Rattle.heap_core.specs.Holding.{live_in, world_of}
 
 -- ---- what is live
 
@@ -29,37 +32,36 @@ live-without_other name (y ∷ w) other h = grind (arith, nat_tests, live-withou
 
 -- ---- the world of a table
 
-pub length-world : (table : List Named) (bytes : List ℕ) → length (world_of table bytes) ≡ length table
-length-world table bytes = length-map table (λ x. live x.name x.block (bytes_of x.block bytes))
+pub length-world : (t : LayerModel) (table : List Named) (m : Memory) → length (world_of t table m) ≡ length table
+length-world t table m = length-map table (live_in t m)
 
-pub is_live-world : (table : List Named) (bytes : List ℕ) (name : ℕ) → is_live (world_of table bytes) name ≡ is_some (named_at table name)
-is_live-world [] bytes name = refl
-is_live-world (x ∷ table) bytes name = grind (arith, nat_tests, is_live-world table bytes name)
+pub is_live-world : (t : LayerModel) (table : List Named) (m : Memory) (name : ℕ) → is_live (world_of t table m) name ≡ is_some (named_at table name)
+is_live-world t [] m name = refl
+is_live-world t (x ∷ table) m name = grind (arith, nat_tests, is_live-world t table m name)
 
-pub live-none : (table : List Named) (bytes : List ℕ) (name : ℕ) → named_at table name ≡ None → live_at (world_of table bytes) name ≡ None
-live-none [] bytes name h = refl
-live-none (x ∷ table) bytes name h = grind (arith, nat_tests, live-none table bytes name)
+pub live-none : (t : LayerModel) (table : List Named) (m : Memory) (name : ℕ) → named_at table name ≡ None → live_at (world_of t table m) name ≡ None
+live-none t [] m name h = refl
+live-none t (x ∷ table) m name h = grind (arith, nat_tests, live-none t table m name)
 
-live-some_here : (x : Named) (bytes : List ℕ) (name : ℕ) (b : Block) → x.name ≡ name → x.block ≡ b → live x.name x.block (bytes_of x.block bytes) ≡ live name b (bytes_of b bytes)
-live-some_here x bytes name b n e = ap (λ k. live k x.block (bytes_of x.block bytes)) n ∙ ap (λ c. live name c (bytes_of c bytes)) e
+live-some_here : (t : LayerModel) (x : Named) (m : Memory) (name : ℕ) (b : Block) → x.name ≡ name → x.block ≡ b → live_in t m x ≡ live_in t m (named name b)
+live-some_here t x m name b n e = ap (λ k. live_in t m (named k x.block)) n ∙ ap (λ c. live_in t m (named name c)) e
 
-pub live-some : (table : List Named) (bytes : List ℕ) (name : ℕ) (b : Block) → named_at table name ≡ Some b → live_at (world_of table bytes) name ≡ Some (live name b (bytes_of b bytes))
-live-some [] bytes name b h = absurd (cc)
-live-some (x ∷ table) bytes name b h = grind (arith, nat_tests, live-some table bytes name b, live-some_here x bytes name b)
+pub live-some : (t : LayerModel) (table : List Named) (m : Memory) (name : ℕ) (b : Block) → named_at table name ≡ Some b → live_at (world_of t table m) name ≡ Some (live_in t m (named name b))
+live-some t [] m name b h = absurd (cc)
+live-some t (x ∷ table) m name b h = grind (arith, nat_tests, live-some t table m name b, live-some_here t x m name b)
 
-pub world-with : (x : Named) (table : List Named) (bytes : List ℕ) → world_of (with_named x table) bytes ≡ with_live (live x.name x.block (bytes_of x.block bytes)) (world_of table bytes)
-world-with x [] bytes = refl
-world-with x (y ∷ table) bytes = grind (arith, nat_tests, world-with x table bytes)
+pub world-with : (t : LayerModel) (x : Named) (table : List Named) (m : Memory) → world_of t (with_named x table) m ≡ with_live (live_in t m x) (world_of t table m)
+world-with t x [] m = refl
+world-with t x (y ∷ table) m = grind (arith, nat_tests, world-with t x table m)
 
-pub world-without : (name : ℕ) (table : List Named) (bytes : List ℕ) → world_of (without_name name table) bytes ≡ without name (world_of table bytes)
-world-without name [] bytes = refl
-world-without name (y ∷ table) bytes = grind (arith, nat_tests, world-without name table bytes)
+pub world-without : (t : LayerModel) (name : ℕ) (table : List Named) (m : Memory) → world_of t (without_name name table) m ≡ without name (world_of t table m)
+world-without t name [] m = refl
+world-without t name (y ∷ table) m = grind (arith, nat_tests, world-without t name table m)
 
--- where no live block's bytes changed, the world is the same
-pub world-same : (table : List Named) (old new : List ℕ) → Each (λ (x : Named). bytes_of x.block new ≡ bytes_of x.block old) table → world_of table new ≡ world_of table old
-world-same [] old new h = refl
-world-same (x ∷ table) old new h =
-    ap (λ bytes. live x.name x.block bytes ∷ world_of table new) h.0 ∙ ap (λ w. live x.name x.block (bytes_of x.block old) ∷ w) (world-same table old new h.1)
+-- where each live block's bytes and its route stay, the world is the same
+pub world-same : (t t' : LayerModel) (table : List Named) (m m' : Memory) → Each (λ (x : Named). live_in t' m' x ≡ live_in t m x) table → world_of t' table m' ≡ world_of t table m
+world-same t t' [] m m' h = refl
+world-same t t' (x ∷ table) m m' h = ap (λ y. y ∷ world_of t' table m') h.0 ∙ ap (λ w. live_in t m x ∷ w) (world-same t t' table m m' h.1)
 
 -- ---- what holds of each element
 
@@ -75,9 +77,19 @@ pub each_pair-from : {X : Type 0} (R S : X → X → Type 0) (l : List X) → ((
 each_pair-from R S [] f h = tt
 each_pair-from R S (x ∷ l) f h = (each-from (R x) (S x) l (f x) h.0, each_pair-from R S l f h.1)
 
-pub each-world : (P : Block → Type 0) (table : List Named) (bytes : List ℕ) → Each (λ (x : Named). P x.block) table → Each (λ (x : Live). P x.block) (world_of table bytes)
-each-world P [] bytes h = tt
-each-world P (x ∷ table) bytes h = (h.0, each-world P table bytes h.1)
+-- what two elements of which P holds make of R
+pub each_pair-under : {X : Type 0} (P : X → Type 0) (R S : X → X → Type 0) (l : List X) → ((x y : X) → P x → P y → R x y → S x y) → Each P l → EachPair R l → EachPair S l
+each_pair-under P R S [] f h k = tt
+each_pair-under P R S (x ∷ l) f h k = (each-both P (R x) (S x) l (λ y p r. f x y h.0 p r) h.1 k.0, each_pair-under P R S l f h.1 k.1)
+
+pub each-world : (P : Block → Type 0) (t : LayerModel) (table : List Named) (m : Memory) → Each (λ (x : Named). P x.block) table → Each (λ (x : Live). P x.block) (world_of t table m)
+each-world P t [] m h = tt
+each-world P t (x ∷ table) m h = (h.0, each-world P t table m h.1)
+
+-- each is live on the route that the root finds
+pub found-world : (t : LayerModel) (table : List Named) (m : Memory) (routes : Block → List ℕ) → ((b : Block) → route_of t m b ≡ routes b) → Each (λ (x : Live). x.route ≡ routes x.block) (world_of t table m)
+found-world t [] m routes h = tt
+found-world t (x ∷ table) m routes h = (h x.block, found-world t table m routes h)
 
 -- the block of a live name is one of the table
 each-here : (P : Block → Type 0) (x : Named) (rest : Option Block) (b : Block) (t : Bool) → P x.block → (rest ≡ Some b → P b) → (if t then Some x.block else rest) ≡ Some b → P b

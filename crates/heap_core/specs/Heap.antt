@@ -47,7 +47,7 @@ pub record Performs (t t' : LayerModel) (table table' : List Named) (m m' : Memo
   pub held : Held t' table' m'
   pub kind : IfOk r (IsAnswerTo call)
   pub fault : OnErr r ((run_in t' table' m' ≡ run_in t table m) × (m' ≡ m))
-  pub moves : IfOk r (λ answer. Moves t.rules.alignment (length m.cells.tags) (world_of table m.bytes) call answer (world_of table' m'.bytes))
+  pub moves : IfOk r (λ answer. Moves t.rules.alignment (length m.cells.tags) (world_of t table m) call answer (world_of t' table' m'))
   pub shape : t'.rules ≡ t.rules
 
 -- how many bytes a block takes up where its route ends

@@ -63,33 +63,33 @@ if_inside false r p = (Err OutOfBlock, r)
 
 -- ---- what each call does
 
--- the block that was served goes under the name, with zeros
+-- the block that was served goes under the name, with zeros and the route that served it
 abbrev pub placed_under : (name : ℕ) → World → State → Cells → Option Placed → Performed
 placed_under name w s cells None = (Ok answers.Null, run_of s cells w)
 placed_under name w s cells (Some p) =
-    (Ok (answers.Placed p.block.place), run_of s cells (with_live (live name p.block (replicate p.block.len 0)) w))
+    (Ok (answers.Placed p.block.place), run_of s cells (with_live (live name p.block (replicate p.block.len 0) p.route) w))
 
 -- a new name: what a rule gives
 abbrev pub served : (name : ℕ) → World → After (Option Placed) → Performed
 served name w x = placed_under name w x.state x.cells x.answer
 
--- a block that was to grow: where it did, the new bytes are 0
+-- a block that was to grow: where it did, the new bytes are 0, and its route stays
 abbrev pub grown_under : (name delta : ℕ) → Live → World → State → Cells → (done : Bool) → Performed
 grown_under name delta x w s cells true =
-    let b = longer_if true delta x.block in (Ok (answers.Said true), run_of s cells (replaced (live name b (resized x b.len)) w))
+    let b = longer_if true delta x.block in (Ok (answers.Said true), run_of s cells (replaced (live name b (resized x b.len) x.route) w))
 grown_under name delta x w s cells false = (Ok (answers.Said false), run_of s cells w)
 
 abbrev pub grown : (name delta : ℕ) → Live → World → After Bool → Performed
 grown name delta x w y = grown_under name delta x w y.state y.cells y.answer
 
--- a block that was to get another length, here or elsewhere
-abbrev pub moved_under : (name : ℕ) → Live → World → State → Cells → Reallocated → Performed
-moved_under name x w s cells (moved_to b) = (Ok (answers.Moved b.place), run_of s cells (replaced (live name b (resized x b.len)) w))
-moved_under name x w s cells emptied = (Ok answers.Gone, run_of s cells (without name w))
-moved_under name x w s cells unmoved = (Ok (answers.Said false), run_of s cells w)
+-- a block that was to get another length, here or elsewhere: its route is the one that is found in the next state
+abbrev pub moved_under : Rules → (name : ℕ) → Live → World → State → Cells → Reallocated → Performed
+moved_under e name x w s cells (moved_to b) = (Ok (answers.Moved b.place), run_of s cells (replaced (live name b (resized x b.len) (e.route b s)) w))
+moved_under e name x w s cells emptied = (Ok answers.Gone, run_of s cells (without name w))
+moved_under e name x w s cells unmoved = (Ok (answers.Said false), run_of s cells w)
 
-abbrev pub moved : (name : ℕ) → Live → World → After Reallocated → Performed
-moved name x w y = moved_under name x w y.state y.cells y.answer
+abbrev pub moved : Rules → (name : ℕ) → Live → World → After Reallocated → Performed
+moved e name x w y = moved_under e name x w y.state y.cells y.answer
 
 -- the block was given back, and whatever the answer the name isn't live
 abbrev pub freed : (name : ℕ) → World → After Bool → Performed
@@ -111,7 +111,7 @@ asked_at r asked.NoSuchLayer = (Err NoSuchLayer, r)
 
 -- the bytes of the block from an offset on are the given ones
 abbrev pub written : (name offset : ℕ) → (given : List ℕ) → Live → Run → Performed
-written name offset given x r = (Ok answers.Done, run_of r.state r.cells (replaced (live name x.block (write_from x.bytes offset given)) r.world))
+written name offset given x r = (Ok answers.Done, run_of r.state r.cells (replaced (live name x.block (write_from x.bytes offset given) x.route) r.world))
 
 abbrev pub bytes_read : (offset len : ℕ) → Live → Run → Performed
 bytes_read offset len x r = (Ok (answers.Bytes (slice_range x.bytes offset (offset + len))), r)
@@ -125,7 +125,7 @@ performed e (Aligned name size align) r =
     (if_offered e.offers.aligned r (served name r.world (e.aligned_allocate size align r.state r.cells)))
 performed e (Expand name delta) r =
     on_live (live_at r.world name) r (λ x. if_offered e.offers.expand r (grown name delta x r.world (e.expand delta x.block r.state r.cells)))
-performed e (Reallocate name size) r = on_live (live_at r.world name) r (λ x. moved name x r.world (e.reallocate size x.block r.state r.cells))
+performed e (Reallocate name size) r = on_live (live_at r.world name) r (λ x. moved e name x r.world (e.reallocate size x.block r.state r.cells))
 performed e (Free name) r = on_live (live_at r.world name) r (λ x. freed name r.world (e.deallocate x.block r.state r.cells))
 performed e FreeAll r = if_offered e.offers.all r (all_freed (e.deallocate_all r.state r.cells))
 performed e (Owns name) r = on_live (live_at r.world name) r (λ x. if_offered e.offers.owns r (owned r (e.owns x.block r.state)))

@@ -1,5 +1,6 @@
 -- RunFacts: what is true of each run between calls, over the rules alone.
-use Rattle.std.specs.Prelude.{ℕ, ◌*◌, ◌%◌, ◌≡◌, ◌≢◌, ◌≤◌, ◌<◌, ◌⊎◌, ◌↔◌, true, false, List, [], length, replicate, Some, None, Result, Ok, OnErr, ⊤}
+use Rattle.std.specs.Prelude.{ℕ, ◌*◌, ◌%◌, ◌≡◌, ◌≢◌, ◌≤◌, ◌<◌, ◌⊎◌, ◌↔◌, Bool, true, false, List, [], length, replicate, Some, None, Result, Ok, OnErr, nat_eq, ⊤}
+use Rattle.std.specs.List.{starts_with}
 use Rattle.space_core.specs.Cells.{Cells, cell_size}
 use Rattle.space_core.specs.Memory.{Memory}
 use Rattle.layer_rules.specs.Blocks.{end_of, is_apart}
@@ -10,7 +11,7 @@ use Rattle.layer_rules.specs.Layering.{LayerModel}
 use Rattle.layer_laws.specs.Lawful.{IsMade, Same}
 use Rattle.heap_core.specs.declared.Named.{Named}
 use Rattle.heap_core.specs.declared.Call.{Call}
-use Rattle.heap_core.specs.declared.Call.TheVariants.{Allocate, Aligned, Expand, Reallocate, Write}
+use Rattle.heap_core.specs.declared.Call.TheVariants.{Allocate, Aligned, Expand, Reallocate, Owns, OwnsAt, Write}
 use Rattle.heap_core.specs.declared.Answer.{Answer}
 use Rattle.heap_core.specs.declared.CallFault.{CallFault}
 use Rattle.heap_core.specs.World.{World, Live, live_at}
@@ -47,6 +48,10 @@ pub record AreBlocks (align cells : ℕ) (w : World) : Type 0 where
   pub aligned : Each (λ (x : Live). x.block.place % align ≡ 0) w
   pub apart : EachPair (λ (x y : Live). is_apart x.block y.block ≡ true) w
 
+-- the route that was recorded for each live block is the one on which the root finds it
+pub record AreFound (e : Rules) (r : Run) : Type 0 where
+  pub routes : Each (λ (x : Live). x.route ≡ e.route x.block r.state) r.world
+
 -- a block was served
 abbrev pub IsPlaced : Result Answer CallFault → Type 0
 IsPlaced (Ok (answers.Placed place)) = ⊤
@@ -82,6 +87,10 @@ NamesShareNoByte =
     (e : Rules) (count leaves : ℕ) (r : Run) → IsHeldRun e count leaves r → (name other : ℕ) (x y : Live) → name ≢ other
     → live_at r.world name ≡ Some x → live_at r.world other ≡ Some y → is_apart x.block y.block ≡ true
 
+-- and each live block is found on the route that was recorded
+abbrev pub RunFindsBlocks : Type 0
+RunFindsBlocks = (e : Rules) (count leaves : ℕ) (r : Run) → IsHeldRun e count leaves r → AreFound e r
+
 -- ---- laws of answers
 
 -- a fault changes nothing
@@ -110,6 +119,18 @@ abbrev pub AlignedPlacedElse : Type 0
 AlignedPlacedElse =
     (e : Rules) (count leaves name size align : ℕ) (r : Run) → IsHeldRun e count leaves r → live_at r.world name ≡ None → length r.world < most_live → e.offers.aligned ≡ true
     → 1 ≤ size → e.refuses_aligned size align r.state r.cells ≡ false → IsPlaced (performed e (Aligned name size align) r).0
+
+-- Where the root offers owns, it owns each live block.
+abbrev pub LiveIsOwned : Type 0
+LiveIsOwned =
+    (e : Rules) (count leaves name : ℕ) (r : Run) (x : Live) → IsHeldRun e count leaves r → live_at r.world name ≡ Some x → e.offers.owns ≡ true
+    → (performed e (Owns name) r).0 ≡ Ok (answers.Said true)
+
+-- Along a path it is answered by the recorded route: yes exactly where that begins with the path.
+abbrev pub PathsAnswerRoutes : Type 0
+PathsAnswerRoutes =
+    (e : Rules) (count leaves name : ℕ) (path : List ℕ) (said : Bool) (r : Run) (x : Live) → IsHeldRun e count leaves r → live_at r.world name ≡ Some x
+    → (performed e (OwnsAt name path) r).0 ≡ Ok (answers.Said said) → said ≡ starts_with nat_eq x.route path
 
 -- of the run nothing is another but the root's statistics
 pub record IsSameRun (old new : Run) : Type 0 where

@@ -18,13 +18,15 @@ use Rattle.heap_core.specs.Moves.{Moves}
 use Rattle.heap_core.specs.Holding.{world_of, run_in, Held}
 use Rattle.heap_core.specs.Heap.{extent_len, AreMeasured}
 
--- The root is open and sound in a table of so many cells; each live block is out, and no byte is in the extents of two.
+-- The root is open and sound in a table of so many cells; each live block is out, on the route that was recorded, and no byte is in the
+-- extents of two.
 pub record IsHeldRun (e : Rules) (count leaves : ℕ) (r : Run) : Type 0 where
   pub made : IsMade e
   pub opened : is_open r.state ≡ true
   pub sound : IsSound e r.state r.cells leaves
   pub size : length r.cells.tags ≡ count
   pub out : Each (λ (x : Live). e.is_out x.block r.state r.cells ≡ true) r.world
+  pub found : Each (λ (x : Live). x.route ≡ e.route x.block r.state) r.world
   pub apart : EachPair (λ (x y : Live). is_apart (e.extent x.block r.state) (e.extent y.block r.state) ≡ true) r.world
 
 -- what a heap holds in its Space is such a run
@@ -58,11 +60,11 @@ HeldMeasured = (t : LayerModel) (table : List Named) (m : Memory) → Held t tab
 abbrev pub ExtentsInRun : Type 0
 ExtentsInRun =
     (t : LayerModel) (table : List Named) (m : Memory) → IsMade t.rules
-    → sum_by (extent_len t) table ≡ sum_by (λ (x : Live). (t.rules.extent x.block (state_of t m)).len) (world_of table m.bytes)
+    → sum_by (extent_len t) table ≡ sum_by (λ (x : Live). (t.rules.extent x.block (state_of t m)).len) (world_of t table m)
 
 -- so are the lengths, and how many blocks there are
 abbrev pub AskedInRun : Type 0
-AskedInRun = (t : LayerModel) (table : List Named) (m : Memory) → asked_by table ≡ sum_by (λ (x : Live). x.block.len) (world_of table m.bytes)
+AskedInRun = (t : LayerModel) (table : List Named) (m : Memory) → asked_by table ≡ sum_by (λ (x : Live). x.block.len) (world_of t table m)
 
 abbrev pub LiveInRun : Type 0
-LiveInRun = (table : List Named) (m : Memory) → length table ≡ length (world_of table m.bytes)
+LiveInRun = (t : LayerModel) (table : List Named) (m : Memory) → length table ≡ length (world_of t table m)

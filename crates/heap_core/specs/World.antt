@@ -1,15 +1,16 @@
--- World: the live blocks by name, each with its bytes, in order of the names.
+-- World: the live blocks by name, each with its bytes and its route, in order of the names.
 use Rattle.std.specs.Prelude.{ℕ, ◌-◌, ◌++◌, Bool, not, List, [], ◌∷◌, Option, Some, None, is_some, filter, take, replicate, nat_eq, nat_lt, if◌then◌else◌}
 use Rattle.layer_rules.specs.declared.Block.{Block}
 
--- a live block
+-- a live block, and the route that was recorded as it was allocated, or as it last moved
 pub record Live : Type 0 where
   pub name : ℕ
   pub block : Block
   pub bytes : List ℕ
+  pub route : List ℕ
 
-abbrev pub live : (name : ℕ) → Block → (bytes : List ℕ) → Live
-live name b bytes = record { name = name; block = b; bytes = bytes }
+abbrev pub live : (name : ℕ) → Block → (bytes route : List ℕ) → Live
+live name b bytes route = record { name = name; block = b; bytes = bytes; route = route }
 
 abbrev pub World : Type 0
 World = List Live
@@ -31,7 +32,7 @@ with_live x (y ∷ ys) = if nat_lt x.name y.name then x ∷ y ∷ ys else y ∷ 
 abbrev pub without : (name : ℕ) → World → World
 without name w = filter (λ x. not (nat_eq x.name name)) w
 
--- the world with another block, or other bytes, under a live name
+-- the world with another block, other bytes or another route under a live name
 abbrev pub replaced : Live → World → World
 replaced x w = with_live x (without x.name w)
 

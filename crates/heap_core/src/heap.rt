@@ -84,7 +84,7 @@ impl<L: Layer> Heap<L> {
         ensures held { Held (heap_model L.model self.new) (heap_table self.new) space.new }
         ensures kind { IfOk result (IsAnswerTo call.now) }
         ensures fault { OnErr result ((run_in (heap_model L.model self.new) (heap_table self.new) space.new ≡ run_in (heap_model L.model self.old) (heap_table self.old) space.old) × (space.new ≡ space.old)) }
-        ensures moves { IfOk result (λ answer. Moves (heap_model L.model self.old).rules.alignment (length space.old.cells.tags) (world_of (heap_table self.old) space.old.bytes) call.now answer (world_of (heap_table self.new) space.new.bytes)) }
+        ensures moves { IfOk result (λ answer. Moves (heap_model L.model self.old).rules.alignment (length space.old.cells.tags) (world_of (heap_model L.model self.old) (heap_table self.old) space.old) call.now answer (world_of (heap_model L.model self.new) (heap_table self.new) space.new)) }
         ensures rules { (heap_model L.model self.new).rules ≡ (heap_model L.model self.old).rules }
     {
         match call {

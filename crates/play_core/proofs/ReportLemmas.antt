@@ -14,7 +14,7 @@ use Rattle.play_core.specs.declared.Status.TheVariants.{Good, WriteFault}
 use Rattle.play_core.specs.Devices.{Writing, PutsAll, Fails}
 use Rattle.play_core.specs.Lines.{joined}
 use Rattle.fact_text.specs.FactText.{and_lines, fact_line, node_lines}
-use Rattle.fact_text.specs.FactLemmas.{nodes_next}
+use Rattle.fact_text.proofs.FactLemmas.{nodes_next}
 use Rattle.play_core.specs.ReportText.{asked_in, extent_in, report_of, total_line, total_lines}
 use Rattle.play_core.specs.Told.{line_piece, reported, text_of}
 use Rattle.play_core.specs.Ends.{LinesPut, PutsLines, Finishes}
@@ -137,16 +137,16 @@ node_none w o e = subst (λ (x : Option (List ℕ)). PutsAll w w (joined (and_li
 
 -- the totals, line by line
 pub totals_put : (t : LayerModel) (table : List Named) (m : Memory) (a b : Writing) (live asked taken slack : ℕ) (x y z u : List ℕ) (r : Result (Unit {0}) Failed)
-    → live ≡ length (world_of table m.bytes) → asked ≡ asked_in (run_in t table m) → taken ≡ extent_in t.rules (run_in t table m) → slack ≡ taken - asked
+    → live ≡ length (world_of t table m) → asked ≡ asked_in (run_in t table m) → taken ≡ extent_in t.rules (run_in t table m) → slack ≡ taken - asked
     → x ≡ total_line (codes "live") live → y ≡ total_line (codes "asked") asked → z ≡ total_line (codes "extent") taken → u ≡ total_line (codes "slack") slack
     → LinesPut a b (x ∷ y ∷ z ∷ u ∷ []) r → LinesPut a b (total_lines t.rules (run_in t table m)) r
 totals_put t table m a b live asked taken slack x y z u r l k n es ex ey ez eu h =
     let s : slack ≡ extent_in t.rules (run_in t table m) - asked_in (run_in t table m) = es ∙ ap (λ v. v - asked) n ∙ ap (λ v. extent_in t.rules (run_in t table m) - v) k in
     let ls : x ∷ y ∷ z ∷ u ∷ [] ≡ total_lines t.rules (run_in t table m) =
     ap (λ v. v ∷ y ∷ z ∷ u ∷ []) (ex ∙ ap (total_line (codes "live")) l)
-    ∙ ap (λ v. total_line (codes "live") (length (world_of table m.bytes)) ∷ v ∷ z ∷ u ∷ []) (ey ∙ ap (total_line (codes "asked")) k)
-    ∙ ap (λ v. total_line (codes "live") (length (world_of table m.bytes)) ∷ total_line (codes "asked") (asked_in (run_in t table m)) ∷ v ∷ u ∷ []) (ez ∙ ap (total_line (codes "extent")) n)
-    ∙ ap (λ v. total_line (codes "live") (length (world_of table m.bytes)) ∷ total_line (codes "asked") (asked_in (run_in t table m)) ∷ total_line (codes "extent") (extent_in t.rules (run_in t table m)) ∷ v ∷ []) (eu ∙ ap (total_line (codes "slack")) s) in
+    ∙ ap (λ v. total_line (codes "live") (length (world_of t table m)) ∷ v ∷ z ∷ u ∷ []) (ey ∙ ap (total_line (codes "asked")) k)
+    ∙ ap (λ v. total_line (codes "live") (length (world_of t table m)) ∷ total_line (codes "asked") (asked_in (run_in t table m)) ∷ v ∷ u ∷ []) (ez ∙ ap (total_line (codes "extent")) n)
+    ∙ ap (λ v. total_line (codes "live") (length (world_of t table m)) ∷ total_line (codes "asked") (asked_in (run_in t table m)) ∷ total_line (codes "extent") (extent_in t.rules (run_in t table m)) ∷ v ∷ []) (eu ∙ ap (total_line (codes "slack")) s) in
     subst (λ lines. LinesPut a b lines r) ls h
 
 -- the nodes after the totals

@@ -5,10 +5,10 @@ use Rattle.space_core.specs.Memory.{Memory, IsMemory, fresh_memory}
 use Rattle.layer_rules.specs.Layering.{LayerModel, Stands, IsShut}
 use Rattle.layer_rules.specs.Rules.{HasDistinctTags, HasMadeTags, HasNoCells, Rules}
 use Rattle.layer_laws.specs.Lawful.{IsMade}
-use Rattle.layer_laws.specs.StandingLaws.{shut-stands_again}
+use Rattle.layer_laws.proofs.StandingLaws.{shut-stands_again}
 use Rattle.shapes.specs.RulesOf.{rules_of}
-use Rattle.expr_reader.specs.ShapeOf.{shape_of}
-use Rattle.expr_reader.specs.Sound.{IsComposition, leaf_count, with_leaves}
+use Rattle.expr_builder.specs.ShapeOf.{shape_of}
+use Rattle.expr_builder.specs.Sound.{IsComposition, leaf_count, with_leaves}
 use Rattle.expr_reader.specs.Trees.{Tree as Expression}
 use Rattle.play_core.specs.Asked.{root_of, free_cells}
 use Rattle.play_core.specs.Runs.{HasAllFree}

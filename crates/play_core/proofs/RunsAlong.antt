@@ -13,14 +13,14 @@ use Rattle.heap_core.specs.declared.CallFault.{CallFault}
 use Rattle.heap_core.specs.World.{Live, live_at, is_live}
 use Rattle.heap_core.specs.Performing.{IsCall, Run, run_of, Performed, under_new_name, if_offered, served, performed, most_live}
 use Rattle.heap_core.specs.Moves.{Moves}
-use Rattle.heap_core.specs.RunFacts.{IsRun, AreBlocks, IsSameRun, RunBegins, RunGoesOn, RunHasBlocks, NullExactly, AlignedNullExactly, RefusedChangesNone}
+use Rattle.heap_core.specs.RunFacts.{IsRun, AreBlocks, AreFound, IsSameRun, RunBegins, RunGoesOn, RunHasBlocks, RunFindsBlocks, NullExactly, AlignedNullExactly, RefusedChangesNone}
 use Rattle.heap_core.specs.Steps.{PerformedMoves}
 use Rattle.trace_text.specs.declared.LineFault.{LineFault}
 use Rattle.trace_text.specs.declared.LineFault.TheVariants.{TooLong}
 use Rattle.trace_text.specs.declared.TraceFault.TheVariants.{Line as LineIn, TooMuchInput}
 use Rattle.trace_text.specs.Grammar.{line_call, most_bytes}
 use Rattle.trace_text.specs.Laws.{ReadIsSayable}
-use Rattle.expr_reader.specs.Sound.{IsComposition, AcceptedAreCompositions, leaf_count}
+use Rattle.expr_builder.specs.Sound.{IsComposition, AcceptedAreCompositions, leaf_count}
 use Rattle.expr_reader.specs.Trees.{Tree as Expression}
 use Rattle.play_core.specs.Asked.{Replays, MayAsk, root_of, opening_of, free_cells}
 use Rattle.play_core.specs.Command.{Command, check, replay, command_of}
@@ -73,6 +73,7 @@ pub record RunLaws : Type 0 where
   pub goes_on : RunGoesOn
   pub moves : PerformedMoves
   pub blocks : RunHasBlocks
+  pub found : RunFindsBlocks
   pub null : NullExactly
   pub null_aligned : AlignedNullExactly
   pub refused : RefusedChangesNone
@@ -116,12 +117,13 @@ module _ (law : RunLaws) where
   pub record IsAlong (e : Rules) (count : ℕ) (r : Run) (pieces : List Piece) : Type 0 where
     pub steps : StepsAlong e count r pieces
     pub blocks : Each (λ (p : Piece). AreBlocks e.alignment count p.run.world) pieces
+    pub found : Each (λ (p : Piece). AreFound e p.run) pieces
 
   lines_along : (e : Rules) (count leaves : ℕ) (r : Run) (lines : List (List ℕ)) → IsRun e count leaves r → IsAlong e count r (map (line_piece r) lines)
-  lines_along e count leaves r [] g = record { steps = tt; blocks = tt }
+  lines_along e count leaves r [] g = record { steps = tt; blocks = tt; found = tt }
   lines_along e count leaves r (line ∷ lines) g =
       let h = lines_along e count leaves r lines g in
-      record { steps = (refl, h.steps); blocks = (law.blocks e count leaves r g.held, h.blocks) }
+      record { steps = (refl, h.steps); blocks = (law.blocks e count leaves r g.held, h.blocks); found = (law.found e count leaves r g.held, h.found) }
 
   -- the call was answered so
   pub record IsAnswered (e : Rules) (r : Run) (call : Call) (answer : Answer) (next : Run) : Type 0 where
@@ -157,14 +159,14 @@ module _ (law : RunLaws) where
 
   on_along : (e : Rules) (count leaves number : ℕ) (r : Run) (o : Outcome) (rest : Run → Told) → IsRun e count leaves r → IsOutcome e r o → ((next : Run) → IsRun e count leaves next → IsAlong e count next (rest next).pieces)
       → IsAlong e count r (told_on number r o rest).pieces
-  on_along e count leaves number r (Stops fault) rest g w f = record { steps = (refl, tt); blocks = (law.blocks e count leaves r g.held, tt) }
+  on_along e count leaves number r (Stops fault) rest g w f = record { steps = (refl, tt); blocks = (law.blocks e count leaves r g.held, tt); found = (law.found e count leaves r g.held, tt) }
   on_along e count leaves number r Silent rest g w f = f r g
   on_along e count leaves number r (Answers call answer next) rest g w f =
       let n : IsRun e count leaves next = subst (λ (x : Run). IsRun e count leaves x) w.leads (law.goes_on e count leaves call r w.proper g) in
       let h = f next n in
       let s : IsStep e count r (record { call = call; answer = answer }) next =
       subst (λ (x : Run). IsStep e count r (record { call = call; answer = answer }) x) w.leads (step_of e count leaves r call answer w.proper g w.answered) in
-      record { steps = (s, h.steps); blocks = (law.blocks e count leaves next n.held, h.blocks) }
+      record { steps = (s, h.steps); blocks = (law.blocks e count leaves next n.held, h.blocks); found = (law.found e count leaves next n.held, h.found) }
 
   told_along : (e : Rules) (count leaves number before : ℕ) (r : Run) (lines : List (List ℕ)) → IsRun e count leaves r → IsAlong e count r (told_from e number before r lines).pieces
   told_along e count leaves number before r [] g = lines_along e count leaves r (report_of e r) g
@@ -184,7 +186,7 @@ module _ (law : RunLaws) where
   opened_tells e cells (Ok o) input t q =
       let r = run_of o.state o.cells [] in
       let along = told_along (root_of e) cells (leaf_count e) 1 0 r (lines_of input) (begins e cells o t q) in
-      record { opened = o; opens = q; steps = along.steps; blocks = along.blocks }
+      record { opened = o; opens = q; steps = along.steps; blocks = along.blocks; found = along.found }
 
   accepted_tells : (c : Option Command) (e : Expression) (cells : ℕ) → MayAsk c (Replays e cells) → (input : List ℕ) → TellsBlockRun cells (telling (Replays e cells) input)
   accepted_tells None e cells a input = absurd (cc)

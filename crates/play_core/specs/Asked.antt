@@ -7,7 +7,7 @@ use Rattle.space_core.specs.Memory.{fresh_memory}
 use Rattle.expr_reader.specs.declared.fault.ExprFault.{ExprFault}
 use Rattle.expr_reader.specs.Answers.{IsAccepted, HasFault}
 use Rattle.shapes.specs.RulesOf.{rules_of}
-use Rattle.expr_reader.specs.ShapeOf.{shape_of}
+use Rattle.expr_builder.specs.ShapeOf.{shape_of}
 use Rattle.expr_reader.specs.Trees.{Tree as Expression}
 use Rattle.play_core.specs.Command.{Command, check, replay, command_of, expression_in}
 

@@ -9,7 +9,7 @@ use Rattle.heap_core.specs.declared.Answer.{Answer}
 use Rattle.heap_core.specs.declared.Answer.TheVariants.{Null, Said}
 use Rattle.heap_core.specs.Moves.{Moves}
 use Rattle.heap_core.specs.Performing.{Run, run_of}
-use Rattle.heap_core.specs.RunFacts.{AreBlocks, IsSameRun}
+use Rattle.heap_core.specs.RunFacts.{AreBlocks, AreFound, IsSameRun}
 use Rattle.expr_reader.specs.Trees.{Tree as Expression}
 use Rattle.play_core.specs.Asked.{Asks, Replays, free_cells}
 use Rattle.play_core.specs.Told.{Piece, Exchange}
@@ -29,7 +29,8 @@ IsRefusal (Expand name delta) (Said false) = ⊤
 IsRefusal (Reallocate name size) (Said false) = ⊤
 IsRefusal _ _ = ⊥
 
--- An answer is a step of the block machine, and with a refusal nothing changes but statistics.
+-- An answer is a step of the block machine, in which each live block is owned, and along a path that is answered by the route that was
+-- recorded. With a refusal nothing changes but statistics.
 pub record IsStep (root : Rules) (cells : ℕ) (old : Run) (x : Exchange) (new : Run) : Type 0 where
   pub moves : Moves root.alignment cells old.world x.call x.answer new.world
   pub null : IsNullExactly root old x.call x.answer
@@ -46,12 +47,13 @@ StepsAlong root cells run [] = ⊤
 StepsAlong root cells run (p ∷ ps) = StepsTo root cells run p.exchange p.run × StepsAlong root cells p.run ps
 
 -- a run of the block machine, from what opening the root gives, with nothing live; when a piece is put the live blocks lie in the area,
--- aligned and apart
+-- aligned and apart, and each is found on the route that was recorded
 pub record IsBlockRun (root : Rules) (cells : ℕ) (pieces : List Piece) : Type 0 where
   pub opened : Opened
   pub opens : root.set_up 0 (free_cells cells) ≡ Ok opened
   pub steps : StepsAlong root cells (run_of opened.state opened.cells []) pieces
   pub blocks : Each (λ (p : Piece). AreBlocks root.alignment cells p.run.world) pieces
+  pub found : Each (λ (p : Piece). AreFound root p.run) pieces
 
 -- what is told after a granted opening is such a run
 abbrev pub TellsBlockRun : (cells : ℕ) → Telling → Type 0

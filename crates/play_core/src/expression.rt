@@ -8,7 +8,9 @@ ghost use Rattle.play_core.specs.CheckText.{check_text, offered, offers_text, ru
 ghost use Rattle.play_core.specs.Runs.{HasAllFree};
 ghost use Rattle.play_core.specs.Telling.{cause_line, expression_text};
 
-use expr_reader::{Expr, ExprFault, build, buildable_are_compositions, print};
+use expr_builder::build;
+use expr_builder::laws::buildable_are_compositions;
+use expr_reader::{Expr, ExprFault, print};
 use layer_core::{Layer, Offers};
 use line_text::{Line, push_number};
 use space_core::{NoMemory, Space};

@@ -3,7 +3,8 @@ ghost use Rattle.play_core.specs.Asked.{AllWordsAskOnce};
 ghost use Rattle.play_core.specs.WholeRuns.{WholeRuns};
 ghost use Rattle.play_core.specs.WorkedRows.{CellsAlone, CheckAlignment, CheckCells, CheckRegion, CheckTooLarge, EmptyTrace, ExpressionFault, FirstTrace, FullRegion, NoBytes, NoCells, OpeningOfTheInner, OpeningOfTheOuter, OpeningTooLong, RegionOverRegion};
 
-use expr_reader::{accepted_are_compositions, each_text_is_read_once};
+use expr_builder::laws::accepted_are_compositions;
+use expr_reader::each_text_is_read_once;
 use heap_core::laws::calls_are_moves;
 use heap_core::runs::{answers_are_exact, live_blocks_are_apart, runs_go_on};
 use trace_text::read_is_sayable;
@@ -16,10 +17,11 @@ pub fn all_words_ask_once()
     each_text_is_read_once();
 }
 
-/// In every run that words and an input are told, each answer is a step of the machine of blocks, null comes exactly
-/// where 0 bytes are asked or the root refuses, a call that is refused changes nothing but statistics, and nothing else
-/// changes a name, a block or a byte. At every piece of the text the live blocks lie in the area, at multiples of the
-/// alignment, and share no byte.
+/// In every run that words and an input are told, each answer is a step of the machine of blocks, a live block is owned,
+/// along a path exactly where this begins its recorded route, null comes exactly where 0 bytes are asked or the root
+/// refuses, a call that is refused changes nothing but statistics, and nothing else changes a name, a block, a byte or a
+/// route. At every piece of the text the live blocks lie in the area, at multiples of the alignment, and share no byte,
+/// and each is found on its route.
 pub fn whole_runs()
     ensures { WholeRuns }
 {

@@ -88,9 +88,9 @@ pub fn run<S: Source, K: Sink>(
         → IsTold (telling asked input) (writing K.holds K.faults sink.old) (writing K.holds K.faults sink.new) space.new result }
 
     // What any input is told on the layers of any expression is a run of the machine of blocks: each answer is one step,
-    // which says of each block whether its bytes stay, null comes exactly where 0 bytes are asked or the root refuses, a
-    // refused call changes nothing but statistics, and at each piece the live blocks lie in the area, are aligned and
-    // share no byte.
+    // which says of each block whether its bytes and its route stay, and that owns answers by that route. Null comes
+    // exactly where 0 bytes are asked or the root refuses, a refused call changes nothing but statistics, and at each
+    // piece the live blocks lie in the area, are aligned, share no byte and are found on their routes.
     ensures moves { (e : Expression) → (cells : ℕ) → Asks (map string_bytes words.now) (Replays e cells) → (input : List ℕ)
         → TellsBlockRun cells (telling (Replays e cells) input) }
 

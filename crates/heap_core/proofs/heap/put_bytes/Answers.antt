@@ -2,7 +2,7 @@ use Rattle.std.proofs.Common.{◌∙◌, ℕ, ◌+◌, ◌<◌, List, length, se
 use Rattle.std.proofs.lemmas.List.{take_all}
 use Rattle.space_core.specs.Memory.{Memory}
 use Rattle.space_core.specs.Words.{write_from}
-use Rattle.space_core.specs.Writes.{length-write_from}
+use Rattle.space_core.proofs.Writes.{length-write_from}
 use Rattle.heap_core.proofs.ByteLemmas.{written-next}
 use Rattle.heap_core.proofs.heap.put_bytes.Goals as goal
 

@@ -9,6 +9,7 @@ returns c =
       goes_on = c.runs_go_on.ensures.goes_on;
       moves = c.calls_are_moves.ensures.moves;
       blocks = c.live_blocks_are_apart.ensures.blocks;
+      found = c.live_blocks_are_apart.ensures.found;
       null = c.answers_are_exact.ensures.null;
       null_aligned = c.answers_are_exact.ensures.null_aligned;
       refused = c.answers_are_exact.ensures.refused;

@@ -14,5 +14,5 @@ returns g c =
     let law = c.blocks_are_measured.ensures in
     totals_put t table m _ _ c.from.result c.asked-asked.result c.extent-extent.result c.saturating_sub.result
     c.total_line.result.bytes c.total_line-2.result.bytes c.total_line-3.result.bytes c.total_line-4.result.bytes c.put_lines.result
-    (c.from.ensures ∙ c.live.ensures ∙ law.live table m) (c.asked-asked.ensures ∙ law.asked t table m) (c.extent-extent.ensures ∙ law.extents t table m c.requires.layer) c.saturating_sub.ensures
+    (c.from.ensures ∙ c.live.ensures ∙ law.live t table m) (c.asked-asked.ensures ∙ law.asked t table m) (c.extent-extent.ensures ∙ law.extents t table m c.requires.layer) c.saturating_sub.ensures
     c.total_line.ensures c.total_line-2.ensures c.total_line-3.ensures c.total_line-4.ensures c.put_lines.ensures

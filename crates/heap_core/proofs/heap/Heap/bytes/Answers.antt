@@ -1,5 +1,5 @@
 use Rattle.std.proofs.Common.{sym}
-use Rattle.layer_laws.specs.StandingLaws.{out-in_space}
+use Rattle.layer_laws.proofs.StandingLaws.{out-in_space}
 use Rattle.heap_core.proofs.Stepping.{live-out}
 use Rattle.heap_core.proofs.heap.Heap.bytes.Goals as goal
 

@@ -1,4 +1,4 @@
-use Rattle.layer_laws.specs.StandingLaws.{out-in_space}
+use Rattle.layer_laws.proofs.StandingLaws.{out-in_space}
 use Rattle.heap_core.proofs.Stepping.{live-block, live-out}
 use Rattle.heap_core.proofs.heap.Heap.bytes_mut.Goals as goal
 
