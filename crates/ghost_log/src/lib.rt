@@ -1,7 +1,7 @@
 //! A list that only proofs read. It takes no memory, and its calls do nothing at run time.
 #![tactic(auto)]
 
-ghost use Rattle.std.specs.Prelude.{◌≡◌, List, [], ◌∷◌};
+ghost use Rattle.std.specs.Prelude.{◌≡◌, List, [], ◌∷◌, map};
 ghost use Rattle.std.specs.Borrow.{ftrue};
 
 use std::marker::{Model, PhantomData};
@@ -23,6 +23,20 @@ impl<A> Log<A> {
     /// An empty list.
     pub fn new() -> Log<A>
         ensures { result.items ≡ [] }
+    {
+        Log { of: PhantomData }
+    }
+
+    /// A list of which nothing is known.
+    ///
+    /// It has no clause, and must get none: what stands on it holds whatever the list is.
+    pub fn unknown() -> Log<A> {
+        Log::new()
+    }
+
+    /// The same value, as many times as another list is long.
+    pub fn filled(count: &Log<()>, value: &A) -> Log<A>
+        ensures { result.items ≡ map (λ _. value.now) count.now.items }
     {
         Log { of: PhantomData }
     }

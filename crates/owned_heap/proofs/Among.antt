@@ -1,9 +1,9 @@
 -- Among: what holds of each live block, of a live one and the others, and after an event.
-use Rattle.std.proofs.Common.{◌≡◌, ◌≢◌, refl, sym, ap, subst, ◌∙◌, ℕ, Bool, true, false, not, ◌&&◌, ◌||◌, nat_eq, cond, ◌⊎◌, inl, inr, List, [], ◌∷◌, arith}
+use Rattle.std.proofs.Common.{◌≡◌, ◌≢◌, refl, sym, ap, subst, ◌∙◌, ℕ, Bool, true, false, not, ◌&&◌, ◌||◌, nat_eq, cond, ◌⊎◌, inl, inr, List, [], ◌∷◌, map, length, arith}
 use Rattle.std.proofs.lemmas.Bool.Decides.{nat_tests}
 use Rattle.layer_rules.specs.Rows.{Each, EachPair}
 use Rattle.owned_heap.specs.Ticket.{Ticket}
-use Rattle.owned_heap.specs.Events.{is_same, is_live, without, live_of}
+use Rattle.owned_heap.specs.Events.{is_same, made, is_live, without, live_of}
 use Rattle.owned_heap.specs.declared.block.Event.{Event}
 use Rattle.owned_heap.specs.declared.block.Event.TheVariants.{Made, Gone, Emptied}
 
@@ -19,6 +19,11 @@ each-from P Q (x ∷ l) f h = (f x h.0, each-from P Q l f h.1)
 pub each-both : (P Q R : Ticket → Type 0) (l : List Ticket) → ((b : Ticket) → P b → Q b → R b) → Each P l → Each Q l → Each R l
 each-both P Q R [] f h k = tt
 each-both P Q R (x ∷ l) f h k = (f x h.0 k.0, each-both P Q R l f h.1 k.1)
+
+-- what two blocks of which P holds make of R
+pub each_pair-under : (P : Ticket → Type 0) (R S : Ticket → Ticket → Type 0) (l : List Ticket) → ((b c : Ticket) → P b → P c → R b c → S b c) → Each P l → EachPair R l → EachPair S l
+each_pair-under P R S [] f h k = tt
+each_pair-under P R S (b ∷ l) f h k = (each-both P (R b) (S b) l (λ c p r. f b c h.0 p r) h.1 k.0, each_pair-under P R S l f h.1 k.1)
 
 pub each_pair-from : (R S : Ticket → Ticket → Type 0) (l : List Ticket) → ((b c : Ticket) → R b c → S b c) → EachPair R l → EachPair S l
 each_pair-from R S [] f h = tt
@@ -107,3 +112,8 @@ live-among [] b h = absurd (cc)
 live-among (Made x ∷ events) b h = elim (either-of (is_same x b) (is_live events b) h) [ inl e ↦ inl (same-is x b e) | inr k ↦ inr (live-among events b k) ]
 live-among (Gone x ∷ events) b h = let p = both-of _ _ h in among-without x (live_of events) b (not-of _ p.0) (live-among events b p.1)
 live-among (Emptied ∷ events) b h = absurd (cc)
+
+-- a birth for each element
+pub births-made : (x : Ticket) (l : List (Unit {0})) → made (map (λ _. Made x) l) ≡ length l
+births-made x [] = refl
+births-made x (y ∷ l) = let rest : made (map (λ _. Made x) l) ≡ length l = births-made x l in omega (arith, rest)

@@ -13,24 +13,24 @@ use Rattle.layer_rules.specs.After.{Placed}
 use Rattle.layer_rules.specs.Layering.{LayerModel, state_of, Stands, IsSetUp, IsShut, IsOutOf, IsCleanOf, IsMarkedOf, IsRoutedIn, AreApartIn, KeepsBytes, SetsUp, block_in, allocated, aligned_allocated, Allocates, AlignedAllocates, Expands, Reallocates, Deallocates, DeallocatesAll, Owns}
 use Rattle.layer_laws.specs.Lawful.{IsMade}
 use Rattle.layer_laws.specs.Standing.{extent_of, Writes, IsNewBlock, AlignedAllocateKeeps, ExpandKeeps, ReallocateKeeps}
-use Rattle.layer_laws.specs.StandingLaws.{lawful, out-in_space, set_up-stands, allocated-stands, allocated-gives, allocated-keeps_out, allocated-keeps_extents, deallocated-stands, deallocated-keeps_out, deallocated-keeps_extents, all_deallocated-stands, expanded-keeps}
-use Rattle.layer_laws.specs.StandingReallocated.{reallocated-keeps}
-use Rattle.layer_laws.specs.FurtherLaws.{aligned_allocated-keeps, owned-keeps, refused-expand, refused-reallocate}
+use Rattle.layer_laws.proofs.StandingLaws.{lawful, out-in_space, set_up-stands, allocated-stands, allocated-gives, allocated-keeps_out, allocated-keeps_extents, deallocated-stands, deallocated-keeps_out, deallocated-keeps_extents, all_deallocated-stands, expanded-keeps}
+use Rattle.layer_laws.proofs.StandingReallocated.{reallocated-keeps}
+use Rattle.layer_laws.proofs.FurtherLaws.{aligned_allocated-keeps, owned-keeps, refused-expand, refused-reallocate}
 use Rattle.size_round.specs.Sizes.{is_power_of_two}
-use Rattle.layer_laws.specs.Placement.{write-keeps, apart-share_no_byte, out-routed}
-use Rattle.layer_laws.specs.Writing.{bytes-inside}
+use Rattle.layer_laws.proofs.Placement.{write-keeps, apart-share_no_byte, out-routed}
+use Rattle.layer_laws.proofs.Writing.{bytes-inside}
 use Rattle.owned_heap.specs.Ticket.{Ticket}
 use Rattle.owned_heap.specs.Events.{is_live, without, live_of, IsApartFromLive}
-use Rattle.owned_heap.specs.Owned.{Owned, IsOwned, IsLive, bytes_of}
+use Rattle.owned_heap.specs.Owned.{Owned, IsOwned, IsLive, bytes_of, WritesIn}
 use Rattle.owned_heap.specs.declared.block.Event.{Event}
 use Rattle.owned_heap.specs.declared.block.Event.TheVariants.{Made, Gone, Emptied}
-use Rattle.owned_heap.proofs.Among.{each-from, each-both, each_pair-from, each-among, among-pairs, same-self, other_number, each-without, each_pair-without, live-among}
+use Rattle.owned_heap.proofs.Among.{each-from, each-both, each_pair-under, each_pair-from, each-among, among-pairs, same-self, other_number, each-without, each_pair-without, live-among}
 use Rattle.owned_heap.proofs.Slices.{length-slice, slice-same, inside-keeps, take-carried, take-first}
 
 -- ---- what is known of live blocks
 
-apart-moved : (t t' : LayerModel) (m m' : Memory) → ((c : Block) → extent_of t' m' c ≡ extent_of t m c) → (b c : Block) → AreApartIn t m b c → AreApartIn t' m' b c
-apart-moved t t' m m' same b c a = record { either = rw (same b, same c) a.either }
+apart-moved : (t t' : LayerModel) (m m' : Memory) (b c : Block) → extent_of t' m' b ≡ extent_of t m b → extent_of t' m' c ≡ extent_of t m c → AreApartIn t m b c → AreApartIn t' m' b c
+apart-moved t t' m m' b c p q a = record { either = rw (p, q) a.either }
 
 flip : (b c : Block) → is_apart b c ≡ true → is_apart c b ≡ true
 flip b c h = grind (arith, nat_tests)
@@ -71,11 +71,11 @@ pub record IsAgain (t t' : LayerModel) (m m' : Memory) : Type 0 where
   pub opened : IsSetUp t'
   pub stands : Stands t' m'
   pub size : length m'.bytes ≡ length m.bytes
-  pub extents : (c : Block) → extent_of t' m' c ≡ extent_of t m c
 
 -- of a block
 pub record IsLeft (t t' : LayerModel) (m m' : Memory) (c : Block) : Type 0 where
   pub out : IsOutOf t' m' c
+  pub extent : extent_of t' m' c ≡ extent_of t m c
   pub clean : IsCleanOf t' m' c
   pub bytes : KeepsBytes m.bytes m'.bytes c.place (end_of c)
 
@@ -88,7 +88,8 @@ left-owned : (t t' : LayerModel) (m m' : Memory) (live : List Ticket) → IsAgai
 left-owned t t' m m' live g k apart = record {
   out = each-from (λ (x : Ticket). IsLeft t t' m m' x.block) (λ (x : Ticket). IsOutOf t' m' x.block) live (λ x l. l.out) k;
   clean = each-from (λ (x : Ticket). IsLeft t t' m m' x.block) (λ (x : Ticket). IsCleanOf t' m' x.block) live (λ x l. l.clean) k;
-  apart = each_pair-from (λ (x y : Ticket). AreApartIn t m x.block y.block) (λ (x y : Ticket). AreApartIn t' m' x.block y.block) live (λ x y. apart-moved t t' m m' g.extents x.block y.block) apart;
+  apart = each_pair-under (λ (x : Ticket). IsLeft t t' m m' x.block) (λ (x y : Ticket). AreApartIn t m x.block y.block) (λ (x y : Ticket). AreApartIn t' m' x.block y.block) live
+      (λ x y p q. apart-moved t t' m m' x.block y.block p.extent q.extent) k apart;
 }
 
 pub more-owned : (t t' : LayerModel) (m m' : Memory) (events : List Event) (x : Ticket) → IsAgain t t' m m' → AreOwned t' m' (live_of events) → IsOutOf t' m' x.block → IsCleanOf t' m' x.block
@@ -139,11 +140,10 @@ module _ (t t' : LayerModel) (m m' : Memory) (events : List Event) (n : ℕ) (r 
     opened = a.opened ∙ h.opened;
     stands = allocated-stands t t' m m' n r l h.stands h.opened a;
     size = a.frame.size;
-    extents = allocated-keeps_extents t t' m m' n r l h.stands h.opened a;
   }
 
   asked-left : (c : Block) → IsOutOf t m c → IsCleanOf t m c → IsLeft t t' m m' c
-  asked-left c o k = record { out = allocated-keeps_out t t' m m' n r l h.stands h.opened a c o; clean = (a.others c o).clean k; bytes = (a.others c o).bytes }
+  asked-left c o k = record { out = allocated-keeps_out t t' m m' n r l h.stands h.opened a c o; extent = allocated-keeps_extents t t' m m' n r l h.stands h.opened a c o; clean = (a.others c o).clean k; bytes = (a.others c o).bytes }
 
   asked-all : AreOwned t' m' (live_of events)
   asked-all = left-owned t t' m m' (live_of events) asked-again (all-left t t' m m' events h asked-left) h.apart
@@ -162,7 +162,7 @@ module _ (t t' : LayerModel) (m m' : Memory) (events : List Event) (n : ℕ) (x 
   given-owned =
       let again = asked-again t t' m m' events n (Some x.block) l h a in
       more-owned t t' m m' events x again (asked-all t t' m m' events n (Some x.block) l h a) given-new.out (a.made x.block refl)
-      (each-from (λ (y : Ticket). IsOutOf t m y.block) (λ (y : Ticket). AreApartIn t' m' x.block y.block) (live_of events) (λ y o. apart-moved t t' m m' again.extents x.block y.block (given-new.fresh y.block o)) h.out)
+      (each-from (λ (y : Ticket). IsOutOf t m y.block) (λ (y : Ticket). AreApartIn t' m' x.block y.block) (live_of events) (λ y. given-new.fresh y.block) h.out)
 
 -- ---- a block is given back
 
@@ -172,12 +172,12 @@ module _ (t t' : LayerModel) (m m' : Memory) (events : List Event) (b : Ticket) 
     opened = a.opened ∙ h.opened;
     stands = deallocated-stands t t' m m' b.block r l h.stands (live-out t m events l h b k) a;
     size = a.frame.size;
-    extents = deallocated-keeps_extents t t' m m' b.block r l h.stands (live-out t m events l h b k) a;
   }
 
   freed-left : (c : Block) → IsOutOf t m c → IsCleanOf t m c → AreApartIn t m b.block c → IsLeft t t' m m' c
   freed-left c o w p = record {
     out = deallocated-keeps_out t t' m m' b.block r l h.stands (live-out t m events l h b k) a c o p;
+    extent = deallocated-keeps_extents t t' m m' b.block r l h.stands (live-out t m events l h b k) a c o p;
     clean = (a.others c o p).clean w;
     bytes = (a.others c o p).bytes;
   }
@@ -223,7 +223,7 @@ module _ (t : LayerModel) (m m' : Memory) (events : List Event) (b : Ticket) (l 
             (λ x p c. keeps.clean x.block p.0 (elim p.1 [ inl e ↦ inl (ap (λ (y : Ticket). y.block) e) | inr a ↦ inr a ]) c)
             (each-both (λ (x : Ticket). IsOutOf t m x.block) (λ (x : Ticket). (x ≡ b) ⊎ AreApartIn t m b.block x.block) P (live_of events) (λ x o s. (o, s)) h.out (others-apart t m events l h b k))
             h.clean;
-        apart = each_pair-from (λ (x y : Ticket). AreApartIn t m x.block y.block) (λ (x y : Ticket). AreApartIn t m' x.block y.block) (live_of events) (λ x y. apart-moved t t m m' same-extents x.block y.block) h.apart;
+        apart = each_pair-from (λ (x y : Ticket). AreApartIn t m x.block y.block) (λ (x y : Ticket). AreApartIn t m' x.block y.block) (live_of events) (λ x y. apart-moved t t m m' x.block y.block (same-extents x.block) (same-extents y.block)) h.apart;
       }
 
   pub written-others : (c : Ticket) → is_live events c ≡ true → c.number ≢ b.number → slice_range m'.bytes c.block.place (end_of c.block) ≡ slice_range m.bytes c.block.place (end_of c.block)
@@ -312,10 +312,10 @@ module _ (t t' : LayerModel) (m m' : Memory) (events : List Event) (n a : ℕ) (
   aligned-keeps = aligned_allocated-keeps t t' m m' n a r l h.stands h.opened p q s
 
   aligned-again : IsAgain t t' m m'
-  aligned-again = record { opened = s.opened ∙ h.opened; stands = aligned-keeps.stands; size = s.frame.size; extents = aligned-keeps.extents }
+  aligned-again = record { opened = s.opened ∙ h.opened; stands = aligned-keeps.stands; size = s.frame.size }
 
   aligned-left : (c : Block) → IsOutOf t m c → IsCleanOf t m c → IsLeft t t' m m' c
-  aligned-left c o k = record { out = aligned-keeps.out c o; clean = (s.others c o).clean k; bytes = (s.others c o).bytes }
+  aligned-left c o k = record { out = aligned-keeps.out c o; extent = aligned-keeps.extents c o; clean = (s.others c o).clean k; bytes = (s.others c o).bytes }
 
   aligned-all : AreOwned t' m' (live_of events)
   aligned-all = left-owned t t' m m' (live_of events) aligned-again (all-left t t' m m' events h aligned-left) h.apart
@@ -340,7 +340,7 @@ module _ (t t' : LayerModel) (m m' : Memory) (events : List Event) (n a : ℕ) (
   aligned-more x e =
       let new = (aligned-keeps.gives x.block e).0 in
       more-owned t t' m m' events x aligned-again aligned-all new.out (s.made x.block e)
-      (each-from (λ (y : Ticket). IsOutOf t m y.block) (λ (y : Ticket). AreApartIn t' m' x.block y.block) (live_of events) (λ y o. apart-moved t t' m m' aligned-again.extents x.block y.block (new.fresh y.block o)) h.out)
+      (each-from (λ (y : Ticket). IsOutOf t m y.block) (λ (y : Ticket). AreApartIn t' m' x.block y.block) (live_of events) (λ y. new.fresh y.block) h.out)
 
 -- ---- a block that is changed
 
@@ -366,10 +366,10 @@ module _ (t t' : LayerModel) (m m' : Memory) (events : List Event) (b : Ticket) 
   expanded-laws r a = expanded-keeps t t' m m' b.block b' delta r l h.stands (live-out t m events l h b k) a
 
   expanded-again : (r : Bool) → Expands t t' m m' b.block b' delta r → IsAgain t t' m m'
-  expanded-again r a = let s = expanded-laws r a in record { opened = a.opened ∙ h.opened; stands = s.stands; size = a.frame.size; extents = s.extents }
+  expanded-again r a = let s = expanded-laws r a in record { opened = a.opened ∙ h.opened; stands = s.stands; size = a.frame.size }
 
   expanded-left : (r : Bool) → Expands t t' m m' b.block b' delta r → (c : Block) → IsOutOf t m c → IsCleanOf t m c → (r ≡ true → AreApartIn t m b.block c) → IsLeft t t' m m' c
-  expanded-left r a c o w p = record { out = (expanded-laws r a).out c o p; clean = (a.others c o p).clean w; bytes = (a.others c o p).bytes }
+  expanded-left r a c o w p = record { out = (expanded-laws r a).out c o p; extent = (expanded-laws r a).extents c o p; clean = (a.others c o p).clean w; bytes = (a.others c o p).bytes }
 
   pub unexpanded-owned : Expands t t' m m' b.block b' delta false → IsOwned t' m' events
   unexpanded-owned a =
@@ -407,10 +407,10 @@ module _ (t t' : LayerModel) (m m' : Memory) (events : List Event) (b : Ticket) 
   moved-laws r a = reallocated-keeps t t' m m' b.block b' n r l h.stands (live-out t m events l h b k) a
 
   moved-again : (r : Bool) → Reallocates t t' m m' b.block b' n r → IsAgain t t' m m'
-  moved-again r a = let s = moved-laws r a in record { opened = a.opened ∙ h.opened; stands = s.stands; size = a.frame.size; extents = s.extents }
+  moved-again r a = let s = moved-laws r a in record { opened = a.opened ∙ h.opened; stands = s.stands; size = a.frame.size }
 
   moved-left : (r : Bool) → Reallocates t t' m m' b.block b' n r → (c : Block) → IsOutOf t m c → IsCleanOf t m c → (r ≡ true → AreApartIn t m b.block c) → IsLeft t t' m m' c
-  moved-left r a c o w p = record { out = (moved-laws r a).out c o p; clean = (a.others c o p).clean w; bytes = (a.others c o p).bytes }
+  moved-left r a c o w p = record { out = (moved-laws r a).out c o p; extent = (moved-laws r a).extents c o p; clean = (a.others c o p).clean w; bytes = (a.others c o p).bytes }
 
   pub unmoved-owned : Reallocates t t' m m' b.block b' n false → IsOwned t' m' events
   unmoved-owned a =
@@ -458,7 +458,7 @@ asked_owns t t' m events b r l h a =
       stands = k.stands;
       out = each-from (λ (x : Ticket). IsOutOf t m x.block) (λ (x : Ticket). IsOutOf t' m x.block) (live_of events) (λ x o. k.out x.block o) h.out;
       clean = each-from (λ (x : Ticket). IsCleanOf t m x.block) (λ (x : Ticket). IsCleanOf t' m x.block) (live_of events) (λ x o. k.clean x.block o) h.clean;
-      apart = each_pair-from (λ (x y : Ticket). AreApartIn t m x.block y.block) (λ (x y : Ticket). AreApartIn t' m x.block y.block) (live_of events) (λ x y. apart-moved t t' m m k.extents x.block y.block) h.apart;
+      apart = each_pair-from (λ (x y : Ticket). AreApartIn t m x.block y.block) (λ (x y : Ticket). AreApartIn t' m x.block y.block) (live_of events) (λ x y. apart-moved t t' m m x.block y.block (k.extents x.block) (k.extents y.block)) h.apart;
     }
 
 pub live-routed : (t : LayerModel) (m : Memory) (events : List Event) → IsMade t.rules → IsOwned t m events → (b : Ticket) → is_live events b ≡ true → IsRoutedIn t b.block
@@ -497,3 +497,9 @@ expands-as t t' m m' b b' delta r s e a = subst (λ x. Expands t t' m m' b b' de
 
 pub unexpanded-same : (t t' : LayerModel) (m m' : Memory) (b b' : Block) (delta : ℕ) → IsMade t.rules → Expands t t' m m' b b' delta false → Expands t t' m m' b b delta false
 unexpanded-same t t' m m' b b' delta l a = subst (λ (x : Block). Expands t t' m m' b x delta false) (refused-expand t t' m m' b b' delta l a).0 a
+
+-- only these bytes were written
+pub only-written : {L : Type 0} (root : L) (events : List Event) (m m' : Memory) (place : ℕ) (given : List ℕ) → m' ≡ record m { bytes = write_from m.bytes place given }
+    → WritesIn (record { root = root; memory = m; events = events }) (record { root = root; memory = m'; events = events }) place given
+unfolding WritesIn
+only-written {L} root events m m' place given e = let with_memory : Memory → Owned L = λ x. record { root = root; memory = x; events = events } in ap with_memory e

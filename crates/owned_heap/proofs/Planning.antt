@@ -12,7 +12,7 @@ use Rattle.layer_rules.specs.Rows.{EachPair}
 use Rattle.layer_rules.specs.After.{Opening, opened}
 use Rattle.layer_rules.specs.Layering.{LayerModel, Stands, IsShut, OpensAs, state_of}
 use Rattle.layer_laws.specs.Lawful.{IsMade}
-use Rattle.layer_laws.specs.StandingLaws.{shut-stands_again}
+use Rattle.layer_laws.proofs.StandingLaws.{shut-stands_again}
 use Rattle.region_block.specs.RegionProper.{IsProper}
 use Rattle.owned_heap.specs.Plans.{IsFresh, IsPlan, HasRoom, IsOneMore, is_alignment, opening_in}
 

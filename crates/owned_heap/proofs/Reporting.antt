@@ -7,7 +7,7 @@ use Rattle.std.proofs.lemmas.List.Folds.{concat-append}
 use Rattle.layer_rules.specs.declared.Fact.{Fact}
 use Rattle.layer_rules.specs.Layering.{LayerModel, state_of}
 use Rattle.fact_text.specs.FactText.{and_lines, fact_line, node_lines}
-use Rattle.fact_text.specs.FactLemmas.{nodes_next}
+use Rattle.fact_text.proofs.FactLemmas.{nodes_next}
 use Rattle.owned_heap.specs.Owned.{Owned}
 use Rattle.owned_heap.specs.Reports.{report_in}
 

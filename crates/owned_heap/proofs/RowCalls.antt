@@ -1,15 +1,19 @@
 -- RowCalls: the rows after each call of a vector of blocks, from what the heap's call says.
-use Rattle.std.proofs.Common.{◌≡◌, ◌≢◌, sym, ap, subst, ◌∙◌, ℕ, ◌+◌, ◌-◌, min, ◌<◌, ◌≤◌, Bool, true, false, List, [], ◌∷◌, ◌++◌, length, take, set, get_or, inl, inr, arith}
-use Rattle.std.specs.List.{swap_remove, SameBelow}
+use Rattle.std.proofs.Common.{◌≡◌, ◌≢◌, sym, ap, subst, ◌∙◌, ℕ, ◌+◌, ◌-◌, min, ◌<◌, ◌≤◌, Bool, true, false, List, [], ◌∷◌, ◌++◌, length, take, set, get_or, inl, inr, Option, Some, Err, arith}
+use Rattle.std.specs.List.{swap_remove, slice_get, SameBelow}
+use Rattle.std.proofs.lemmas.Option.{slice_get-get_or}
 use Rattle.std.specs.Bool.{OnTrue, OnFalse}
 use Rattle.std.proofs.Math.Seq.{get_or-append_seam, take-append_seam, take-set-lt}
 use Rattle.std.proofs.lemmas.Bool.{cases_lt}
 use Rattle.std.proofs.lemmas.List.{length-append, length-map, length-set, length-take-le, take-set-le, take-map, get_or-map, get_or-take, set-get_or}
 use Rattle.layer_rules.specs.Rows.{Each}
+use Rattle.layer_rules.specs.Layering.{LayerModel}
 use Rattle.owned_heap.specs.Ticket.{Ticket}
 use Rattle.owned_heap.specs.Events.{made}
 use Rattle.owned_heap.specs.Owned.{Owned, bytes_of}
-use Rattle.owned_heap.specs.Rows.{rows_of, IsRow, AreRows}
+use Rattle.owned_heap.specs.Rows.{rows_of, IsRow, AreRows, PushesIn}
+use Rattle.owned_heap.specs.declared.rows.PushError.{PushError}
+use Rattle.owned_heap.specs.declared.rows.PushError.TheVariants.{NoRoom, Refused}
 use Rattle.owned_heap.specs.declared.block.Event.TheVariants.{Made, Gone}
 use Rattle.owned_heap.proofs.Among.{each-from}
 use Rattle.owned_heap.proofs.RowParts.{each-at, each-take, AreOther, pair-take, pair-before, get_or-same, row-set, kept-below}
@@ -218,3 +222,15 @@ module _ {L : Type 0} (h h' : Owned L) (x : Ticket) (events : h'.events ≡ Gone
     removed-rows =
         let n : length l - 1 ≡ length (rows_of h l) - 1 = omega (arith, length-map l (bytes_of h)) in
         ap (rows_of h') e ∙ (swapped-rows l i (length l - 1) a lt one-more at ∙ ap (λ k. take k (set (rows_of h l) i (get_or (rows_of h l) k []))) n)
+
+-- the newest of a row
+pub newest-at : (l l' : List Ticket) (x : Ticket) (n : ℕ) → l' ≡ l ++ x ∷ [] → n ≡ length l → slice_get l' n ≡ Some x
+newest-at l l' x n e k =
+    let inside : length l < length (l ++ x ∷ []) = omega (arith, length-append l (x ∷ [])) in
+    rw (e, k) (slice_get-get_or (l ++ x ∷ []) (length l) x inside ∙ ap Some (get_or-append_seam l x [] x))
+
+-- what the layers did is the same whatever a push answers beside
+pub pushes-again : {L : Type 0} (A B : Type 0) (model : L → LayerModel) (old new : Owned L) (n : ℕ) (newest : Option Ticket) (e : PushError) → PushesIn {A = A} model old new n newest (Err e) → PushesIn {A = B} model old new n newest (Err e)
+unfolding PushesIn
+pushes-again A B model old new n newest NoRoom p = p
+pushes-again A B model old new n newest Refused p = p

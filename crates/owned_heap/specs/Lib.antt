@@ -5,3 +5,4 @@ pub mod Owned
 pub mod Plans
 pub mod Reports
 pub mod Rows
+pub mod Tables

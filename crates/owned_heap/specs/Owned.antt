@@ -1,9 +1,10 @@
 -- Owned: what contracts see of a heap.
 use Rattle.std.specs.Prelude.{ℕ, ◌≡◌, Bool, true, not, ◌||◌, List, [], cond, option_map, slice_range, nat_eq, Option}
 use Rattle.space_core.specs.Memory.{Memory}
+use Rattle.space_core.specs.Words.{write_from}
 use Rattle.layer_rules.specs.Blocks.{end_of}
 use Rattle.layer_rules.specs.Rows.{Each, EachPair}
-use Rattle.layer_rules.specs.Layering.{LayerModel, state_of, Stands, IsSetUp, IsOutOf, IsCleanOf, AreApartIn, kept_state, Allocates, AlignedAllocates, Expands, Reallocates, Deallocates, DeallocatesAll}
+use Rattle.layer_rules.specs.Layering.{LayerModel, state_of, Stands, IsSetUp, IsOutOf, IsCleanOf, AreApartIn, kept_state, Allocates, AlignedAllocates, Expands, Reallocates, Deallocates, DeallocatesAll, Owns}
 use Rattle.owned_heap.specs.Ticket.{Ticket}
 use Rattle.owned_heap.specs.Events.{made, is_live, live_of}
 use Rattle.owned_heap.specs.declared.block.Event.{Event}
@@ -60,6 +61,10 @@ AllocatesIn model old new n r = Allocates (model old.root) (model new.root) old.
 unfoldable pub DeallocatesIn : {L : Type 0} → (L → LayerModel) → (old new : Owned L) → Ticket → Bool → Type 0
 DeallocatesIn model old new b answer = Deallocates (model old.root) (model new.root) old.memory new.memory b.block answer
 
+-- whatever was answered
+unfoldable pub GivesBackIn : {L : Type 0} → (L → LayerModel) → (old new : Owned L) → Ticket → Type 0
+GivesBackIn model old new b = (answer : Bool) × DeallocatesIn model old new b answer
+
 unfoldable pub DeallocatesAllIn : {L : Type 0} → (L → LayerModel) → (old new : Owned L) → Type 0
 DeallocatesAllIn model old new = DeallocatesAll (model old.root) (model new.root) old.memory new.memory
 
@@ -73,3 +78,10 @@ ExpandsIn model old new b b' delta answer =
 
 unfoldable pub ReallocatesIn : {L : Type 0} → (L → LayerModel) → (old new : Owned L) → (b b' : Ticket) → (n : ℕ) → Bool → Type 0
 ReallocatesIn model old new b b' n answer = Reallocates (model old.root) (model new.root) old.memory new.memory b.block b'.block n answer
+
+unfoldable pub OwnsIn : {L : Type 0} → (L → LayerModel) → (old new : Owned L) → Ticket → Bool → Type 0
+OwnsIn model old new b answer = Owns (model old.root) (model new.root) b.block answer
+
+-- only these bytes changed, from a place on: the layers, the table of cells and all other bytes are as before
+unfoldable pub WritesIn : {L : Type 0} → (old new : Owned L) → (place : ℕ) → (bytes : List ℕ) → Type 0
+WritesIn old new place bytes = new ≡ record old { memory = record old.memory { bytes = write_from old.memory.bytes place bytes } }

@@ -2,7 +2,7 @@
 use Rattle.std.specs.Prelude.{ℕ}
 use Rattle.layer_rules.specs.declared.Block.{Block}
 
--- the how-manieth block of its heap it is, from 0, and where it stands
+-- the how-manieth block of its heap it is, from a number that nothing tells, and where it stands
 pub record Ticket : Type 0 where
   pub number : ℕ
   pub block : Block

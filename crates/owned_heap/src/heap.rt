@@ -1,8 +1,9 @@
 //! The heap itself.
-ghost use Rattle.std.specs.Prelude.{◌≡◌, ◌≢◌, ◌+◌, ◌≤◌, ◌<◌, ◌%◌, true, false, length, min, take, is_none, is_some, slice_set, slice_index, IfSome};
+ghost use Rattle.std.specs.Prelude.{◌≡◌, ◌≢◌, ◌+◌, ◌≤◌, ◌<◌, ◌%◌, true, false, length, min, take, is_none, is_some, slice_set, slice_index, IfSome, IfNone};
 ghost use Rattle.std.specs.Fn.{FnOnceReturnsAtMut};
 ghost use Rattle.space_core.specs.Words.{write_from};
 ghost use Rattle.layer_rules.specs.Blocks.{end_of};
+ghost use Rattle.owned_heap.specs.Events.{made};
 ghost use Rattle.owned_heap.specs.Altered.{IsAltered};
 
 use crate::block::{Event, OwnedBlock};
@@ -48,12 +49,12 @@ impl<L: Layer> OwnedHeap<L> {
     ghost use Rattle.layer_rules.specs.Layering.{IsFactOf};
     ghost use Rattle.owned_heap.specs.Plans.{IsPlan, is_alignment, begun_in};
     ghost use Rattle.owned_heap.specs.Events.{made, is_live, IsApartFromLive};
-    ghost use Rattle.owned_heap.specs.Owned.{IsLive, bytes_of, is_refused, is_refused_at, holds, extent_len, AllocatesIn, AlignedAllocatesIn, ExpandsIn, ReallocatesIn, DeallocatesIn, DeallocatesAllIn};
+    ghost use Rattle.owned_heap.specs.Owned.{IsLive, bytes_of, is_refused, is_refused_at, holds, extent_len, AllocatesIn, AlignedAllocatesIn, ExpandsIn, ReallocatesIn, OwnsIn, DeallocatesIn, DeallocatesAllIn, WritesIn};
 
     // The heap of a closed root on the one leaf of a Space in which no cell is taken.
     pub(crate) fn open(space: Space, root: L) -> Result<OwnedHeap<L>, Refused>
         requires { IsPlan (L.model root) space }
-        ensures empty { IfOk result (λ heap. heap.events ≡ []) }
+        ensures empty { IfOk result (λ heap. (b : _) → is_live heap.events b ≡ false) }
         ensures rules { IfOk result (λ heap. (L.model heap.root).rules ≡ (L.model root).rules) }
         ensures ok { IfOk result (λ heap. (L.model root).rules.set_up 0 space.cells ≡ Ok (begun_in L.model heap)) }
         ensures err { IfErr result (λ refused. (L.model root).rules.set_up 0 space.cells ≡ Err refused.node) }
@@ -61,11 +62,12 @@ impl<L: Layer> OwnedHeap<L> {
         let mut space = space;
         let mut root = root;
         root.set_up(&mut space, 0)?;
+        let (before, births) = past();
         Ok(OwnedHeap {
             space,
             root,
-            events: Log::new(),
-            births: Log::new(),
+            events: before.and(&Event::Emptied),
+            births,
         })
     }
 
@@ -140,6 +142,7 @@ impl<L: Layer> OwnedHeap<L> {
         ensures aligned { IfSome result (λ b. b.block.place % a ≡ 0) }
         ensures others { (c : _) → c.number ≢ made self.old.events → bytes_of self.new c ≡ bytes_of self.old c }
         ensures rule { AlignedAllocatesIn L.model self.old self.new n a result }
+        ensures unoffered { (L.model self.old.root).rules.offers.aligned ≡ false → self.new ≡ self.old }
     {
         if !self.root.offers().aligned {
             return None;
@@ -170,6 +173,8 @@ impl<L: Layer> OwnedHeap<L> {
         ensures same_bytes { OnFalse result (bytes_of self.new b.old ≡ bytes_of self.old b.old) }
         ensures others { (c : _) → c.number ≢ b.old.number → c.number ≢ made self.old.events → bytes_of self.new c ≡ bytes_of self.old c }
         ensures rule { ExpandsIn L.model self.old self.new b.old b.new delta result }
+        ensures offered { OnTrue result ((L.model self.old.root).rules.offers.expand ≡ true) }
+        ensures unoffered { (L.model self.old.root).rules.offers.expand ≡ false → self.new ≡ self.old }
     {
         if !self.root.offers().expand {
             return false;
@@ -221,6 +226,9 @@ impl<L: Layer> OwnedHeap<L> {
         ensures answer { IfSome result (λ yes. yes ≡ holds L.model self.old b.now) }
         ensures events { self.new.events ≡ self.old.events }
         ensures bytes { (c : _) → bytes_of self.new c ≡ bytes_of self.old c }
+        ensures memory { self.new.memory ≡ self.old.memory }
+        ensures rule { IfSome result (λ yes. OwnsIn L.model self.old self.new b.now yes) }
+        ensures same { IfNone result (self.new ≡ self.old) }
     {
         if !self.root.offers().owns {
             return None;
@@ -264,6 +272,7 @@ impl<L: Layer> OwnedHeap<L> {
         ensures events { self.new.events ≡ self.old.events }
         ensures written { bytes_of self.new b.now ≡ slice_set (bytes_of self.old b.now) at value }
         ensures others { (c : _) → c.number ≢ b.now.number → bytes_of self.new c ≡ bytes_of self.old c }
+        ensures only { WritesIn self.old self.new (b.now.block.place + at) (value ∷ []) }
     {
         self.space.set_byte(b.place() + at, value);
     }
@@ -275,6 +284,7 @@ impl<L: Layer> OwnedHeap<L> {
         ensures events { self.new.events ≡ self.old.events }
         ensures written { bytes_of self.new b.now ≡ bytes.now }
         ensures others { (c : _) → c.number ≢ b.now.number → bytes_of self.new c ≡ bytes_of self.old c }
+        ensures only { WritesIn self.old self.new b.now.block.place bytes.now }
     {
         self.write_at(b, 0, bytes);
     }
@@ -287,6 +297,7 @@ impl<L: Layer> OwnedHeap<L> {
         ensures written { bytes_of self.new b.now ≡ write_from (bytes_of self.old b.now) at bytes.now }
         ensures size { length (bytes_of self.new b.now) ≡ b.now.block.len }
         ensures others { (c : _) → c.number ≢ b.now.number → bytes_of self.new c ≡ bytes_of self.old c }
+        ensures only { WritesIn self.old self.new (b.now.block.place + at) bytes.now }
     {
         put(&mut self.space, b.place() + at, bytes);
     }
@@ -299,6 +310,7 @@ impl<L: Layer> OwnedHeap<L> {
         ensures changed { FnOnceReturnsAtMut F.FnOnce change (bytes_of self.old b.now) tt (bytes_of self.new b.now) }
         ensures size { length (bytes_of self.new b.now) ≡ b.now.block.len }
         ensures others { (c : _) → c.number ≢ b.now.number → bytes_of self.new c ≡ bytes_of self.old c }
+        ensures only { WritesIn self.old self.new b.now.block.place (bytes_of self.new b.now) }
     {
         alter(&mut self.space, b.block(), change);
     }
@@ -317,6 +329,16 @@ impl<L: Layer> OwnedHeap<L> {
         self.events = self.events.and(&Event::Emptied);
         true
     }
+}
+
+// What a heap remembers of the time before it: a past of which nothing is known but that its births are counted. So no proof
+// has two heaps count on from one number, and takes a block of the one for a block of the other. It must get no clause more.
+fn past() -> (Log<Event>, Log<()>)
+    ensures counted { length result.1.items ≡ made result.0.items }
+{
+    let births = Log::unknown();
+    let block = OwnedBlock::after(&births, Block { place: 0, len: 0 });
+    (Log::filled(&births, &Event::Made(block)), births)
 }
 
 // Writes the bytes from a place on.

@@ -17,8 +17,10 @@ use std::marker::Model;
 /// Memory in cells of 64 bytes, with one leaf, and the layers that stand on it, all closed. Each call puts one more
 /// layer on top, by its plain numbers.
 ///
+/// At most 8 layers stand above the leaf.
+///
 /// Contracts see the root, and of it how many cells there are, the alignment, how many nodes it has, and how many
-/// layers stand above the leaf, at most 8.
+/// layers stand above the leaf.
 #[derive(Drop)]
 pub struct Layers<L: Layer> {
     space: Space,
@@ -56,7 +58,7 @@ impl Model for Ground {
 impl Layers<Mem> {
     ghost use Rattle.space_core.specs.Memory.{most_cells};
 
-    /// So many cells, and a leaf.
+    /// So many cells, and a leaf: 1 to 262,144 cells, which are 16 MiB.
     ///
     /// # Errors
     /// `NoMemory` where the process has no memory for them.
@@ -95,6 +97,7 @@ impl<L: Layer> Layers<L> {
     ghost use Rattle.affix_rules.specs.AffixRules.{affix_rules, affix_bound, alignment_behind};
     ghost use Rattle.affix_layer.specs.AffixModel.{affix_of};
     ghost use Rattle.owned_heap.specs.Plans.{is_alignment, IsOneMore, HasRoom, opening_in, begun_in};
+    ghost use Rattle.owned_heap.specs.Events.{is_live};
 
     /// A region on top: one chunk of at least `size` bytes, from which blocks are handed out from front to back, at multiples
     /// of `align`.
@@ -209,7 +212,7 @@ impl<L: Layer> Layers<L> {
     /// # Errors
     /// `Refused` with the node that can't be opened, counted in preorder from the root as 0.
     pub fn heap(self) -> Result<OwnedHeap<L>, Refused>
-        ensures empty { IfOk result (λ heap. heap.events ≡ []) }
+        ensures empty { IfOk result (λ heap. (b : _) → is_live heap.events b ≡ false) }
         ensures rules { IfOk result (λ heap. (L.model heap.root).rules ≡ (L.model self.root).rules) }
         ensures ok { IfOk result (λ heap. opening_in L.model self ≡ Ok (begun_in L.model heap)) }
         ensures err { IfErr result (λ refused. opening_in L.model self ≡ Err refused.node) }

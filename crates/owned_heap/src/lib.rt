@@ -6,6 +6,7 @@ mod heap;
 mod layers;
 mod report;
 mod rows;
+mod table;
 
 pub use affix_layer::Affix;
 pub use block::{Event, OwnedBlock};
@@ -16,7 +17,8 @@ pub use layers::{Ground, Layers};
 pub use quantizer::Quantizer;
 pub use quota::Quota;
 pub use region_block::Region;
-pub use rows::BlockVec;
+pub use rows::{BlockVec, PushError};
 pub use size_round::{Multiple, PowerOfTwo};
 pub use space_core::NoMemory;
 pub use stats_collector::StatsCollector;
+pub use table::BlockTable;

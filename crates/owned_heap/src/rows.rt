@@ -1,5 +1,5 @@
 //! A heap with a vector of its blocks, for code that keeps many of them.
-ghost use Rattle.std.specs.Prelude.{◌≡◌, ◌+◌, ◌-◌, ◌≤◌, ◌<◌, ◌++◌, ◌∷◌, true, false, [], not, length, min, take, drop, slice_get, slice_set, slice_range, OnOk, OnErr};
+ghost use Rattle.std.specs.Prelude.{◌≡◌, ◌+◌, ◌-◌, ◌≤◌, ◌<◌, ◌++◌, ◌∷◌, true, false, [], not, length, min, take, drop, slice_get, slice_set, slice_range, is_ok, Err, OnOk, OnErr};
 ghost use Rattle.std.specs.Fn.{FnOnceReturnsAtMut};
 ghost use Rattle.space_core.specs.Words.{write_from};
 
@@ -8,6 +8,18 @@ use crate::heap::OwnedHeap;
 use layer_core::Layer;
 use std::alloc::{AllocError, Global};
 use std::marker::Model;
+use thiserror::Error;
+
+/// Why there is no block more in a row.
+#[derive(Clone, Copy, Debug, PartialEq, Eq, Error)]
+pub enum PushError {
+    /// The process has no memory for one more. It needs none where room was reserved.
+    #[error("no room for one more block")]
+    NoRoom,
+    /// 0 bytes were asked, or the layers of the heap refuse.
+    #[error("the heap refuses a block")]
+    Refused,
+}
 
 /// Blocks of a heap, by their numbers from 0 on. Contracts see the bytes of each as a row, in the order of the pushes.
 ///
@@ -33,8 +45,8 @@ impl<L: Layer> BlockVec<L> {
     ghost use Rattle.std.specs.Prelude.{◌==◌};
     ghost use Rattle.std.specs.List.{swap_remove, SameBelow};
     ghost use Rattle.std.specs.Bool.{OnTrue, OnFalse};
-    ghost use Rattle.owned_heap.specs.Owned.{is_refused, AllocatesIn, ReallocatesIn, DeallocatesIn};
-    ghost use Rattle.owned_heap.specs.Rows.{row_of, block_at, AreGone};
+    ghost use Rattle.owned_heap.specs.Owned.{is_refused, ReallocatesIn, DeallocatesIn, DeallocatesAllIn, WritesIn};
+    ghost use Rattle.owned_heap.specs.Rows.{row_of, block_at, cleared, AreGone, PushesIn};
 
     /// No block of this heap yet.
     pub fn new(alloc: Global, heap: OwnedHeap<L>) -> BlockVec<L>
@@ -83,31 +95,36 @@ impl<L: Layer> BlockVec<L> {
         self.blocks.is_empty()
     }
 
-    /// Puts a block of `n` bytes at the end, or answers `false` where 0 bytes are asked, the root refuses, or the process
-    /// has no memory for one more, which it needs none for where room was reserved. What the bytes are isn't said.
-    pub fn push(&mut self, n: u64) -> bool
-        ensures served { OnTrue result (is_refused L.model self.old.heap n ≡ false) }
-        ensures succeeds { length self.old.rows < self.old.capacity → result ≡ not (is_refused L.model self.old.heap n) }
-        ensures row { OnTrue result (self.new.rows ≡ self.old.rows ++ row_of self.new.rows (length self.old.rows) ∷ []) }
-        ensures size { OnTrue result (length (row_of self.new.rows (length self.old.rows)) ≡ n) }
-        ensures len { OnTrue result (length self.new.rows ≡ length self.old.rows + 1) }
-        ensures blocks { OnTrue result (self.new.blocks ≡ self.old.blocks ++ block_at self.new.blocks (length self.old.rows) ∷ []) }
-        ensures events { OnTrue result (self.new.heap.events ≡ Event.Made (block_at self.new.blocks (length self.old.rows)) ∷ self.old.heap.events) }
-        ensures same { OnFalse result (self.new.rows ≡ self.old.rows) }
-        ensures same_blocks { OnFalse result (self.new.blocks ≡ self.old.blocks) }
-        ensures same_events { OnFalse result (self.new.heap.events ≡ self.old.heap.events) }
+    /// Puts a block of `n` bytes at the end. What the bytes are isn't said.
+    ///
+    /// # Errors
+    /// `Refused` where 0 bytes are asked or the root refuses, and `NoRoom` where the process has no memory for one more in the
+    /// row, which it needs none for where room was reserved. All rows are as before then.
+    pub fn push(&mut self, n: u64) -> Result<(), PushError>
+        ensures served { OnOk result (is_refused L.model self.old.heap n ≡ false) }
+        ensures refused { result ≡ Err PushError.Refused → is_refused L.model self.old.heap n ≡ true }
+        ensures no_room { result ≡ Err PushError.NoRoom → self.old.capacity ≤ length self.old.rows }
+        ensures succeeds { length self.old.rows < self.old.capacity → is_ok result ≡ not (is_refused L.model self.old.heap n) }
+        ensures row { OnOk result (self.new.rows ≡ self.old.rows ++ row_of self.new.rows (length self.old.rows) ∷ []) }
+        ensures size { OnOk result (length (row_of self.new.rows (length self.old.rows)) ≡ n) }
+        ensures len { OnOk result (length self.new.rows ≡ length self.old.rows + 1) }
+        ensures blocks { OnOk result (self.new.blocks ≡ self.old.blocks ++ block_at self.new.blocks (length self.old.rows) ∷ []) }
+        ensures events { OnOk result (self.new.heap.events ≡ Event.Made (block_at self.new.blocks (length self.old.rows)) ∷ self.old.heap.events) }
+        ensures same { OnErr result (self.new.rows ≡ self.old.rows) }
+        ensures same_blocks { OnErr result (self.new.blocks ≡ self.old.blocks) }
+        ensures same_events { OnErr result (self.new.heap.events ≡ self.old.heap.events) }
         ensures capacity { self.old.capacity ≤ self.new.capacity }
-        ensures rule { OnTrue result (AllocatesIn L.model self.old.heap self.new.heap n (slice_get self.new.blocks (length self.old.rows))) }
+        ensures rule { PushesIn L.model self.old.heap self.new.heap n (slice_get self.new.blocks (length self.old.rows)) result }
     {
         if self.blocks.reserve(1).is_err() {
-            return false;
+            return Err(PushError::NoRoom);
         }
         match self.heap.allocate(n) {
             Some(block) => {
                 self.blocks.push_reserved(block);
-                true
+                Ok(())
             }
-            None => false,
+            None => Err(PushError::Refused),
         }
     }
 
@@ -135,6 +152,7 @@ impl<L: Layer> BlockVec<L> {
         ensures len { length self.new.rows ≡ length self.old.rows }
         ensures blocks { self.new.blocks ≡ self.old.blocks }
         ensures capacity { self.new.capacity ≡ self.old.capacity }
+        ensures only { WritesIn self.old.heap self.new.heap (block_at self.old.blocks index).block.place bytes.now }
     {
         let block = &self.blocks[index];
         self.heap.write(block, bytes);
@@ -152,6 +170,7 @@ impl<L: Layer> BlockVec<L> {
         ensures len { length self.new.rows ≡ length self.old.rows }
         ensures blocks { self.new.blocks ≡ self.old.blocks }
         ensures capacity { self.new.capacity ≡ self.old.capacity }
+        ensures only { WritesIn self.old.heap self.new.heap ((block_at self.old.blocks index).block.place + at) bytes.now }
     {
         let block = &self.blocks[index];
         self.heap.write_at(block, at, bytes);
@@ -167,6 +186,7 @@ impl<L: Layer> BlockVec<L> {
         ensures len { length self.new.rows ≡ length self.old.rows }
         ensures blocks { self.new.blocks ≡ self.old.blocks }
         ensures capacity { self.new.capacity ≡ self.old.capacity }
+        ensures only { WritesIn self.old.heap self.new.heap (block_at self.old.blocks index).block.place (row_of self.new.rows index) }
     {
         let block = &self.blocks[index];
         self.heap.with_bytes_mut(block, change);
@@ -182,8 +202,10 @@ impl<L: Layer> BlockVec<L> {
         ensures kept { OnTrue result (take (min (length (row_of self.old.rows index)) n) (row_of self.new.rows index) ≡ take n (row_of self.old.rows index)) }
         ensures by_index { OnTrue result (SameBelow (row_of self.old.rows index) (row_of self.new.rows index) (min (length (row_of self.old.rows index)) n)) }
         ensures blocks { OnTrue result (self.new.blocks ≡ slice_set self.old.blocks index (block_at self.new.blocks index)) }
+        ensures events { OnTrue result (self.new.heap.events ≡ Event.Made (block_at self.new.blocks index) ∷ (Event.Gone (block_at self.old.blocks index) ∷ self.old.heap.events)) }
         ensures same { OnFalse result (self.new.rows ≡ self.old.rows) }
         ensures same_blocks { OnFalse result (self.new.blocks ≡ self.old.blocks) }
+        ensures same_events { OnFalse result (self.new.heap.events ≡ self.old.heap.events) }
         ensures len { length self.new.rows ≡ length self.old.rows }
         ensures capacity { self.new.capacity ≡ self.old.capacity }
         ensures rule { ReallocatesIn L.model self.old.heap self.new.heap (block_at self.old.blocks index) (block_at self.new.blocks index) n result }
@@ -225,7 +247,10 @@ impl<L: Layer> BlockVec<L> {
         ensures rows { self.new.rows ≡ [] }
         ensures blocks { self.new.blocks ≡ [] }
         ensures gone { AreGone self.new.heap self.old.blocks }
+        ensures events { self.new.heap.events ≡ cleared (L.model self.old.heap.root).rules.offers.all self.old.blocks self.old.heap.events }
         ensures capacity { self.new.capacity ≡ self.old.capacity }
+        ensures rules { (L.model self.new.heap.root).rules ≡ (L.model self.old.heap.root).rules }
+        ensures rule { (L.model self.old.heap.root).rules.offers.all ≡ true → DeallocatesAllIn L.model self.old.heap self.new.heap }
     {
         if self.heap.deallocate_all() {
             self.blocks.clear();

@@ -5,7 +5,7 @@
 ghost use Rattle.std.specs.Prelude.{◌≡◌, ◌≢◌, ◌<◌, ℕ, length, take, OnOk};
 ghost use Rattle.owned_heap.specs.Rows.{row_of};
 
-use owned_heap::{BlockVec, Layer, Layers, Multiple, NoMemory};
+use owned_heap::{BlockVec, Layer, Layers, Multiple, NoMemory, PushError};
 use std::alloc::Global;
 use thiserror::Error;
 
@@ -15,6 +15,8 @@ enum Fault {
     NoMemory(#[from] NoMemory),
     #[error("a layer can't be opened")]
     Refused,
+    #[error("a buffer can't be made: {0}")]
+    Push(#[from] PushError),
     #[error("the heap is full")]
     Full,
 }
@@ -26,9 +28,7 @@ const TURNS: usize = 24;
 // Makes the buffers, all short.
 fn fill<L: Layer>(ring: &mut BlockVec<L>) -> Result<(), Fault> {
     for _ in 0..BUFFERS {
-        if !ring.push(16) {
-            return Err(Fault::Full);
-        }
+        ring.push(16)?;
     }
     Ok(())
 }

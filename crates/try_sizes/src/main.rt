@@ -39,32 +39,20 @@ fn records<L: Layer>(heap: &mut OwnedHeap<L>) -> Result<u64, Fault> {
     Ok(place)
 }
 
-// Twelve records at once: the first is as it was when all others are written.
-fn twelve<L: Layer>(heap: &mut OwnedHeap<L>) -> Option<u8> {
+// Six records at once: the first is as it was when all others are written.
+fn six<L: Layer>(heap: &mut OwnedHeap<L>) -> Option<u8> {
     let first = heap.allocate(1)?;
     let second = heap.allocate(2)?;
     let third = heap.allocate(3)?;
     let fourth = heap.allocate(4)?;
     let fifth = heap.allocate(5)?;
     let sixth = heap.allocate(6)?;
-    let seventh = heap.allocate(7)?;
-    let eighth = heap.allocate(8)?;
-    let ninth = heap.allocate(9)?;
-    let tenth = heap.allocate(10)?;
-    let eleventh = heap.allocate(11)?;
-    let twelfth = heap.allocate(12)?;
     heap.set_byte(&first, 0, 1);
     heap.set_byte(&second, 0, 2);
     heap.set_byte(&third, 0, 3);
     heap.set_byte(&fourth, 0, 4);
     heap.set_byte(&fifth, 0, 5);
     heap.set_byte(&sixth, 0, 6);
-    heap.set_byte(&seventh, 0, 7);
-    heap.set_byte(&eighth, 0, 8);
-    heap.set_byte(&ninth, 0, 9);
-    heap.set_byte(&tenth, 0, 10);
-    heap.set_byte(&eleventh, 0, 11);
-    heap.set_byte(&twelfth, 0, 12);
     let kept = heap.bytes(&first)[0];
     prove!(kept == 1);
     heap.deallocate(first);
@@ -73,12 +61,6 @@ fn twelve<L: Layer>(heap: &mut OwnedHeap<L>) -> Option<u8> {
     heap.deallocate(fourth);
     heap.deallocate(fifth);
     heap.deallocate(sixth);
-    heap.deallocate(seventh);
-    heap.deallocate(eighth);
-    heap.deallocate(ninth);
-    heap.deallocate(tenth);
-    heap.deallocate(eleventh);
-    heap.deallocate(twelfth);
     Some(kept)
 }
 
@@ -93,7 +75,7 @@ fn serve(alloc: Global) -> Result<(u64, String), Fault> {
     else {
         return Err(Fault::Refused);
     };
-    twelve(&mut heap).ok_or(Fault::Full)?;
+    six(&mut heap).ok_or(Fault::Full)?;
     let place = records(&mut heap)?;
     Ok((place, heap.report(alloc)?))
 }

@@ -1,5 +1,5 @@
 use Rattle.std.proofs.Common.{refl}
-use Rattle.owned_heap.specs.Owned.{holds}
+use Rattle.owned_heap.specs.Owned.{holds, OwnsIn}
 use Rattle.owned_heap.proofs.Owning.{asked_owns, bytes-kept}
 use Rattle.owned_heap.proofs.heap.OwnedHeap.owns.Goals as goal
 
@@ -12,3 +12,7 @@ returns-clause-answer g c = rw (← c.self.view_is) (rw c.block.ensures at c.own
 
 pub returns-clause-bytes : goal.returns-clause-bytes
 returns-clause-bytes g c = rw (← c.self.view_is) (λ b. bytes-kept _ _ b refl (λ k. refl))
+
+pub returns-clause-rule : goal.returns-clause-rule
+unfolding OwnsIn
+returns-clause-rule g c = rw (← c.self.view_is) (rw c.block.ensures at c.owns.ensures)

@@ -1,5 +1,5 @@
 use Rattle.std.proofs.Common.{arith, ◌∙◌, ap, sym, refl, set}
-use Rattle.owned_heap.proofs.Owning.{live-at, live-room, set-inside, written-owned, written-others, bytes-kept, bytes-live}
+use Rattle.owned_heap.proofs.Owning.{only-written, live-at, live-room, set-inside, written-owned, written-others, bytes-kept, bytes-live}
 use Rattle.std.specs.List.{slice_range}
 use Rattle.space_core.specs.Memory.{Memory}
 use Rattle.layer_rules.specs.Blocks.{end_of}
@@ -39,3 +39,6 @@ returns-clause-others g c =
     bytes-kept _ _ b refl (λ j.
     written-others _ _ _ _ c.args.b.now (g.met.L.Layer.made c.self.inside.root) c.self.invariant.owned (live-at _ _ c.args.b.now c.self.view_is c.requires.live)
     (set-inside c.args.b.now.block _ _ c.args.at c.args.value c.requires.at (rw c.place.ensures at c.set_byte.ensures.after)) b j n))
+
+pub returns-clause-only : goal.returns-clause-only
+returns-clause-only g c = rw (← c.self.view_is) (only-written c.self.inside.root c.self.inside.events.items _ _ _ _ (rw c.place.ensures at c.set_byte.ensures.after))

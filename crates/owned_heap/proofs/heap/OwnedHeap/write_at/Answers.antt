@@ -3,7 +3,7 @@ use Rattle.std.specs.List.{slice_range}
 use Rattle.space_core.specs.Memory.{Memory}
 use Rattle.space_core.specs.Words.{write_from}
 use Rattle.layer_rules.specs.Blocks.{end_of}
-use Rattle.owned_heap.proofs.Owning.{live-at, live-room, put-inside, written-owned, written-others, bytes-kept, bytes-live, slice-size}
+use Rattle.owned_heap.proofs.Owning.{only-written, live-at, live-room, put-inside, written-owned, written-others, bytes-kept, bytes-live, slice-size}
 use Rattle.owned_heap.proofs.Slices.{slice-written}
 use Rattle.owned_heap.proofs.heap.OwnedHeap.write_at.Goals as goal
 
@@ -48,3 +48,6 @@ returns-clause-others g c =
     bytes-kept _ _ b refl (λ j.
     written-others _ _ _ _ c.args.b.now (g.met.L.Layer.made c.self.inside.root) c.self.invariant.owned (live-at _ _ c.args.b.now c.self.view_is c.requires.live)
     (put-inside c.args.b.now.block _ _ c.args.at c.args.bytes.now c.requires.inside (rw c.place.ensures at c.put.ensures)) b j n))
+
+pub returns-clause-only : goal.returns-clause-only
+returns-clause-only g c = rw (← c.self.view_is) (only-written c.self.inside.root c.self.inside.events.items _ _ _ _ (rw c.place.ensures at c.put.ensures))

@@ -17,4 +17,4 @@ returns g c =
     let old = block-at c.self.inside.blocks.items c.args.index c.index_mut-block.result.now inside c.index_mut-block.ensures.value in
     let new = block-at-set c.self.inside.blocks.items c.args.index c.reallocate.new.b inside in
     rw (← c.self.view_is)
-    (record { row = m.row; size = m.size; kept = m.kept; by_index = m.by_index; blocks = block-moved c.reallocate.result _ c.args.index _ inside; same = m.same; same_blocks = block-stays c.reallocate.result _ c.args.index _ _ c.index_mut-block.ensures.value e.same; len = set-length c.self.inside.heap c.reallocate.new.self _ _ _; capacity = search rules; rule = rw (old, new) e.rule })
+    (record { row = m.row; size = m.size; kept = m.kept; by_index = m.by_index; blocks = block-moved c.reallocate.result _ c.args.index _ inside; same = m.same; same_blocks = block-stays c.reallocate.result _ c.args.index _ _ c.index_mut-block.ensures.value e.same; len = set-length c.self.inside.heap c.reallocate.new.self _ _ _; capacity = search rules; events = rw (old, new) e.events; same_events = e.same_events; rule = rw (old, new) e.rule })

@@ -1,7 +1,7 @@
 use Rattle.std.proofs.Common.{◌∙◌, ap, refl, set, sym, length}
 use Rattle.std.proofs.lemmas.List.{length-set}
 use Rattle.owned_heap.proofs.Altering.{called-at}
-use Rattle.owned_heap.proofs.RowParts.{row-set}
+use Rattle.owned_heap.proofs.RowParts.{block-at, row-set}
 use Rattle.owned_heap.proofs.RowCalls.{inside-rows, row-of, row-size, wrote-are, wrote-rows}
 use Rattle.owned_heap.proofs.rows.BlockVec.with_bytes_mut.Goals as goal
 
@@ -27,4 +27,5 @@ returns g c =
       len = ap length wrote ∙ length-set _ _ _;
       blocks = refl;
       capacity = refl;
+      only = rw (block-at c.self.inside.blocks.items c.args.index c.index-block.result.now inside c.index-block.ensures, new) e.only;
     })

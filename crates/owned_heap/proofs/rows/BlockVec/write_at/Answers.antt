@@ -3,7 +3,7 @@ use Rattle.std.specs.List.{slice_range}
 use Rattle.std.proofs.lemmas.List.{length-set}
 use Rattle.space_core.specs.Words.{write_from}
 use Rattle.owned_heap.proofs.Slices.{length-written}
-use Rattle.owned_heap.proofs.RowParts.{row-set, written-stands, take-written, drop-written}
+use Rattle.owned_heap.proofs.RowParts.{block-at, row-set, written-stands, take-written, drop-written}
 use Rattle.owned_heap.proofs.RowCalls.{inside-rows, row-of, wrote-are, wrote-rows}
 use Rattle.owned_heap.proofs.rows.BlockVec.write_at.Goals as goal
 
@@ -34,4 +34,5 @@ returns g c =
       len = ap length rows ∙ length-set _ _ _;
       blocks = refl;
       capacity = refl;
+      only = rw (block-at c.self.inside.blocks.items c.args.index c.index-block.result.now inside c.index-block.ensures) c.write_at.ensures.only;
     })
