@@ -1,42 +1,19 @@
 -- What contracts see of one level of a composition.
-use Rattle.std.specs.Prelude.{refl}
 use Rattle.layer_rules.specs.Layering.{LayerModel}
 use Rattle.layer_laws.specs.Lawful.{IsMade}
 use Rattle.layer_core.specs.declared.Layer.{Ghosts}
-use Rattle.region_block.specs.RegionModel.{region_of}
-use Rattle.region_block.specs.RegionMade.{region_made}
-use Rattle.free_list.specs.FreeListModel.{free_list_of}
-use Rattle.free_list.specs.FreeListMade.{free_list_made}
-use Rattle.quantizer.specs.QuantizerModel.{quantizer_of}
-use Rattle.quantizer.specs.QuantizerMade.{quantizer_made}
-use Rattle.stats_collector.specs.CollectorModel.{collector_of}
-use Rattle.stats_collector.specs.CollectorMade.{collector_made}
-use Rattle.affix_layer.specs.AffixModel.{affix_of}
-use Rattle.affix_layer.specs.AffixMade.{affix_made}
-use Rattle.size_round.specs.Sizes.{multiple_of, power_of_two}
-use Rattle.size_round.specs.declared.rounding.Multiple.{Multiple}
-use Rattle.size_round.specs.declared.rounding.PowerOfTwo.{PowerOfTwo}
+use Rattle.composition.specs.LeafModel.{leaf_of, leaf_made}
+use Rattle.composition.specs.AnyModel.{any_of, any_made}
 use Rattle.composition.specs.declared.levels.Over.{Over}
-use Rattle.composition.specs.declared.levels.Over.TheVariants.{Pass, Region, FreeList, QuantizeStep, QuantizePow2, Stats, Affix}
+use Rattle.composition.specs.declared.levels.Over.TheVariants.{Leaf, Layer}
 
--- The model of the layer inside; a pass adds nothing to its parent's. It is opened where one level is proved or built: elsewhere all
--- forms at each of the levels would be gone through.
+-- The model of the layer inside. It is opened where one level is proved or built: elsewhere each of the levels would be gone through.
 unfoldable pub over_of : {P : Type 0} {G : Ghosts P} → (P → LayerModel) → Over P G → LayerModel
-over_of model (Pass l) = model l
-over_of model (Region l) = region_of model l.value
-over_of model (FreeList l) = free_list_of model l.value
-over_of model (QuantizeStep l) = quantizer_of model (λ (r : Multiple). multiple_of r.step) l.value
-over_of model (QuantizePow2 l) = quantizer_of model (λ (r : PowerOfTwo). power_of_two) l.value
-over_of model (Stats l) = collector_of model l.value
-over_of model (Affix l) = affix_of model l.value
+over_of model (Leaf l) = leaf_of l
+over_of model (Layer l) = any_of model l.value
 
 -- its rules are lawful, since those of each form are
 pub over_made : {P : Type 0} {G : Ghosts P} → ((p : P) → IsMade (G.model p).rules) → (l : Over P G) → IsMade (over_of G.model l).rules
 unfolding over_of
-over_made made (Pass l) = made l
-over_made made (Region l) = region_made made l.value
-over_made made (FreeList l) = free_list_made made l.value
-over_made made (QuantizeStep l) = quantizer_made made (λ (r : Multiple). r.proper) l.value
-over_made made (QuantizePow2 l) = quantizer_made made (λ (r : PowerOfTwo). refl) l.value
-over_made made (Stats l) = collector_made made l.value
-over_made made (Affix l) = affix_made made l.value
+over_made made (Leaf l) = leaf_made l
+over_made made (Layer l) = any_made made l.value

@@ -1,4 +1,5 @@
 pub mod LeafModel
+pub mod AnyModel
 pub mod LevelModel
 pub mod QuarterModel
 pub mod HalfModel

@@ -13,149 +13,99 @@ pub enum Leaf {
     Mem(Mem),
 }
 
+// What the layer inside does.
+macro_rules! inside {
+    ($end:expr, $layer:ident => $call:expr) => {
+        match $end {
+            Leaf::Null($layer) => $call,
+            Leaf::Mem($layer) => $call,
+        }
+    };
+}
+
 impl Layer for Leaf {
     ghost use Rattle.composition.specs.LeafModel.{leaf_of, leaf_made};
 
     ghost model = { leaf_of };
 
     fn nodes(&self) -> u32 {
-        match self {
-            Leaf::Null(layer) => layer.nodes(),
-            Leaf::Mem(layer) => layer.nodes(),
-        }
+        inside!(self, layer => layer.nodes())
     }
 
     fn offers(&self) -> Offers {
-        match self {
-            Leaf::Null(layer) => layer.offers(),
-            Leaf::Mem(layer) => layer.offers(),
-        }
+        inside!(self, layer => layer.offers())
     }
 
     fn alignment(&self) -> u64 {
-        match self {
-            Leaf::Null(layer) => layer.alignment(),
-            Leaf::Mem(layer) => layer.alignment(),
-        }
+        inside!(self, layer => layer.alignment())
     }
 
     fn good_alloc_size(&self, n: u64) -> u64 {
-        match self {
-            Leaf::Null(layer) => layer.good_alloc_size(n),
-            Leaf::Mem(layer) => layer.good_alloc_size(n),
-        }
+        inside!(self, layer => layer.good_alloc_size(n))
     }
 
     fn is_open(&self) -> bool {
-        match self {
-            Leaf::Null(layer) => layer.is_open(),
-            Leaf::Mem(layer) => layer.is_open(),
-        }
+        inside!(self, layer => layer.is_open())
     }
 
     fn set_up(&mut self, space: &mut Space, need: u64) -> Result<(), Refused> {
-        match self {
-            Leaf::Null(layer) => layer.set_up(space, need),
-            Leaf::Mem(layer) => layer.set_up(space, need),
-        }
+        inside!(self, layer => layer.set_up(space, need))
     }
 
     fn tear_down(&mut self, space: &mut Space) {
-        match self {
-            Leaf::Null(layer) => layer.tear_down(space),
-            Leaf::Mem(layer) => layer.tear_down(space),
-        }
+        inside!(self, layer => layer.tear_down(space))
     }
 
     fn allocate(&mut self, space: &mut Space, n: u64) -> Option<Block> {
-        match self {
-            Leaf::Null(layer) => layer.allocate(space, n),
-            Leaf::Mem(layer) => layer.allocate(space, n),
-        }
+        inside!(self, layer => layer.allocate(space, n))
     }
 
     fn aligned_allocate(&mut self, space: &mut Space, n: u64, a: u64) -> Option<Block> {
-        match self {
-            Leaf::Null(layer) => layer.aligned_allocate(space, n, a),
-            Leaf::Mem(layer) => layer.aligned_allocate(space, n, a),
-        }
+        inside!(self, layer => layer.aligned_allocate(space, n, a))
     }
 
     fn expand(&mut self, space: &mut Space, b: &mut Block, delta: u64) -> bool {
-        match self {
-            Leaf::Null(layer) => layer.expand(space, b, delta),
-            Leaf::Mem(layer) => layer.expand(space, b, delta),
-        }
+        inside!(self, layer => layer.expand(space, b, delta))
     }
 
     fn reallocate(&mut self, space: &mut Space, b: &mut Block, n: u64) -> bool {
-        match self {
-            Leaf::Null(layer) => layer.reallocate(space, b, n),
-            Leaf::Mem(layer) => layer.reallocate(space, b, n),
-        }
+        inside!(self, layer => layer.reallocate(space, b, n))
     }
 
     fn deallocate(&mut self, space: &mut Space, b: Block) -> bool {
-        match self {
-            Leaf::Null(layer) => layer.deallocate(space, b),
-            Leaf::Mem(layer) => layer.deallocate(space, b),
-        }
+        inside!(self, layer => layer.deallocate(space, b))
     }
 
     fn deallocate_all(&mut self, space: &mut Space) {
-        match self {
-            Leaf::Null(layer) => layer.deallocate_all(space),
-            Leaf::Mem(layer) => layer.deallocate_all(space),
-        }
+        inside!(self, layer => layer.deallocate_all(space))
     }
 
     fn holds(&self, b: Block) -> bool {
-        match self {
-            Leaf::Null(layer) => layer.holds(b),
-            Leaf::Mem(layer) => layer.holds(b),
-        }
+        inside!(self, layer => layer.holds(b))
     }
 
     fn owns(&mut self, b: Block) -> bool {
-        match self {
-            Leaf::Null(layer) => layer.owns(b),
-            Leaf::Mem(layer) => layer.owns(b),
-        }
+        inside!(self, layer => layer.owns(b))
     }
 
     fn owns_at(&self, path: &Path, from: usize, b: Block) -> Asked {
-        match self {
-            Leaf::Null(layer) => layer.owns_at(path, from, b),
-            Leaf::Mem(layer) => layer.owns_at(path, from, b),
-        }
+        inside!(self, layer => layer.owns_at(path, from, b))
     }
 
     fn extent(&self, b: Block) -> u64 {
-        match self {
-            Leaf::Null(layer) => layer.extent(b),
-            Leaf::Mem(layer) => layer.extent(b),
-        }
+        inside!(self, layer => layer.extent(b))
     }
 
     fn fact(&self, space: &Space, node: u32) -> Fact {
-        match self {
-            Leaf::Null(layer) => layer.fact(space, node),
-            Leaf::Mem(layer) => layer.fact(space, node),
-        }
+        inside!(self, layer => layer.fact(space, node))
     }
 
     fn state_len(&self, node: u32) -> u32 {
-        match self {
-            Leaf::Null(layer) => layer.state_len(node),
-            Leaf::Mem(layer) => layer.state_len(node),
-        }
+        inside!(self, layer => layer.state_len(node))
     }
 
     fn state_number(&self, node: u32, k: u32) -> u64 {
-        match self {
-            Leaf::Null(layer) => layer.state_number(node, k),
-            Leaf::Mem(layer) => layer.state_number(node, k),
-        }
+        inside!(self, layer => layer.state_number(node, k))
     }
 
     ghost made = { λ l. leaf_made l };

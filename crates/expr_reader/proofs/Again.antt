@@ -11,16 +11,15 @@ use Rattle.expr_reader.specs.Flaws.{heads, alignment, least_alignment, word_alig
 use Rattle.expr_reader.specs.Canonical.{word_text, choice_text, numeral, canonical, in_place, args_in_place}
 use Rattle.expr_reader.specs.Answers.{IsAccepted}
 use Rattle.expr_reader.specs.Buildable.{ArePassed, KeepsRules, AllKeepRules, AllKeepRulesIn, IsBuildable}
-use Rattle.expr_reader.specs.ShapeOf.{shape_of, shapes, layer_shape, leaf_count, leaf_count_in}
-use Rattle.expr_reader.proofs.Builds.{keeps-flawless, accepted-buildable}
+use Rattle.expr_reader.proofs.Flawless.{keeps-flawless, accepted-buildable}
 use Rattle.expr_reader.proofs.Texts.{canonical_spells}
 
 -- where what stands between the parentheses begins
-abbrev inside : (at : ℕ) → Name → ℕ
+abbrev pub inside : (at : ℕ) → Name → ℕ
 inside at k = at + length (word_text k) + 1
 
 -- where the arguments behind the first begin
-abbrev behind : (at : ℕ) → List ℕ → ℕ
+abbrev pub behind : (at : ℕ) → List ℕ → ℕ
 behind at text = at + length text + 1
 
 -- ---- places change nothing else
@@ -47,7 +46,7 @@ mutual
   in_place-depth_in (choice c args) at = in_place-depth_in args (behind at (choice_text c))
   in_place-depth_in (layer e args) at = (λ i. max (in_place-depth e at i) (in_place-depth_in args (behind at (canonical e)) i))
 
-in_place-heads : (args : Args) (at : ℕ) → heads (args_in_place at args) ≡ heads args
+pub in_place-heads : (args : Args) (at : ℕ) → heads (args_in_place at args) ≡ heads args
 in_place-heads (last e) at = refl
 in_place-heads (number n args) at = ap (λ hs. Number n ∷ hs) (in_place-heads args (at + length (numeral n)))
 in_place-heads (choice c args) at = ap (λ hs. Chosen c ∷ hs) (in_place-heads args (behind at (choice_text c)))
@@ -63,29 +62,6 @@ mutual
   in_place-alignment_in (number n args) at = in_place-alignment_in args (at + length (numeral n))
   in_place-alignment_in (choice c args) at = in_place-alignment_in args (behind at (choice_text c))
   in_place-alignment_in (layer e args) at = (λ i. min (in_place-alignment e at i) (in_place-alignment_in args (behind at (canonical e)) i))
-
-mutual
-  in_place-leaves : (e : Tree) (at : ℕ) → leaf_count (in_place at e) ≡ leaf_count e
-  in_place-leaves (leaf old k) at = refl
-  in_place-leaves (node old k args) at = in_place-leaves_in args (inside at k)
-
-  in_place-leaves_in : (args : Args) (at : ℕ) → leaf_count_in (args_in_place at args) ≡ leaf_count_in args
-  in_place-leaves_in (last e) at = in_place-leaves e at
-  in_place-leaves_in (number n args) at = in_place-leaves_in args (at + length (numeral n))
-  in_place-leaves_in (choice c args) at = in_place-leaves_in args (behind at (choice_text c))
-  in_place-leaves_in (layer e args) at = (λ i. in_place-leaves e at i + in_place-leaves_in args (behind at (canonical e)) i)
-
-mutual
-  pub in_place-shape : (e : Tree) (at made : ℕ) → shape_of (in_place at e) made ≡ shape_of e made
-  in_place-shape (leaf old k) at made = refl
-  in_place-shape (node old k args) at made = (λ i. layer_shape k (in_place-heads args (inside at k) i) (in_place-shapes args (inside at k) made i))
-
-  in_place-shapes : (args : Args) (at made : ℕ) → shapes (args_in_place at args) made ≡ shapes args made
-  in_place-shapes (last e) at made = ap (λ s. s ∷ []) (in_place-shape e at made)
-  in_place-shapes (number n args) at made = in_place-shapes args (at + length (numeral n)) made
-  in_place-shapes (choice c args) at made = in_place-shapes args (behind at (choice_text c)) made
-  in_place-shapes (layer e args) at made =
-      (λ i. in_place-shape e at made i ∷ shapes (args_in_place (behind at (canonical e)) args) (made + in_place-leaves e at i)) ∙ ap (λ ss. shape_of e made ∷ ss) (in_place-shapes args (behind at (canonical e)) (made + leaf_count e))
 
 -- ---- nor what is kept
 

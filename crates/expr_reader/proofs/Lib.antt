@@ -10,6 +10,5 @@ pub mod Agreeing
 pub mod Whole
 pub mod Texts
 pub mod Printed
-pub mod WordMeanings
-pub mod Builds
+pub mod Flawless
 pub mod Again

@@ -12,6 +12,4 @@ pub mod Canonical
 pub mod Printing
 pub mod Descent
 pub mod Nodes
-pub mod ShapeOf
 pub mod Buildable
-pub mod Sound

@@ -1,8 +1,6 @@
-//! Expressions such as `region(1024, 16, mem)`: what they are made of, how a text is read, how one is printed, and which
-//! composition of layers it stands for.
+//! Expressions such as `region(1024, 16, mem)`: what they are made of, how a text is read, and how one is printed.
 #![tactic(auto)]
 
-mod building;
 mod fault;
 mod flaws;
 mod forms;
@@ -16,7 +14,6 @@ mod token;
 mod tree;
 mod words;
 
-pub use building::{accepted_are_compositions, build, buildable_are_compositions};
 pub use fault::ExprFault;
 pub use printing::{canonical_is_accepted, canonical_is_read, print};
 pub use reading::{each_text_is_read_once, read};

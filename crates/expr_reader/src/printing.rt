@@ -8,7 +8,6 @@ ghost use Rattle.expr_reader.specs.Grammar.{Spells, Fits};
 ghost use Rattle.expr_reader.specs.Tokens.{tokens};
 ghost use Rattle.expr_reader.specs.Answers.{IsAccepted};
 ghost use Rattle.expr_reader.specs.Buildable.{IsBuildable};
-ghost use Rattle.expr_reader.specs.ShapeOf.{shape_of};
 
 use crate::token::{Choice, Name, Word};
 use crate::tree::{Bounds, Expr, Form, Parts, RoundKind};
@@ -172,10 +171,8 @@ pub fn canonical_is_read()
     ensures { (e : Tree) → Fits e → (f : Tree) → Spells f (tokens (canonical e)) ↔ (f ≡ in_place 0 e) }
 {}
 
-/// The canonical text of a buildable expression is accepted, as that expression in its places, and stands for the same shape. So it is
-/// of one that was accepted.
+/// The canonical text of a buildable expression is accepted, as that expression in its places. So it is of one that was accepted.
 pub fn canonical_is_accepted()
     ensures buildable { (e : Tree) → IsBuildable e → IsAccepted (canonical e) (in_place 0 e) }
     ensures accepted { (text : List ℕ) → (e : Tree) → IsAccepted text e → IsAccepted (canonical e) (in_place 0 e) }
-    ensures shape { (e : Tree) → (made : ℕ) → shape_of (in_place 0 e) made ≡ shape_of e made }
 {}

@@ -6,7 +6,7 @@ use Rattle.layer_rules.specs.declared.Refused.{Refused}
 use Rattle.layer_rules.specs.Layering.{LayerModel, state_of, SetsUp, TearsDown, Allocates, AlignedAllocates, Reallocates}
 use Rattle.layer_laws.specs.Lawful.{IsMade}
 use Rattle.layer_laws.specs.Standing.{AlignedAllocateKeeps, ReallocateKeeps}
-use Rattle.layer_laws.specs.StandingLaws.{set_up-stands, torn-stands, allocated-stands, allocated-gives, framing}
+use Rattle.layer_laws.proofs.StandingLaws.{set_up-stands, torn-stands, allocated-stands, allocated-gives, framing}
 use Rattle.layer_tests.specs.Between.{IsWaiting, IsReady, IsHeld}
 
 pub set_up-ready : (t t' : LayerModel) (m m' : Memory) (need : ℕ) (r : Result (Unit {0}) Refused) → IsMade t.rules → IsWaiting t m → SetsUp t t' m m' need r → OnOk r (IsReady t' m')

@@ -45,21 +45,6 @@ pub fn open<L: Layer>(layer: &mut L, space: &mut Space, need: u64) -> Result<(),
     layer.set_up(space, need)
 }
 
-/// The node that can't be opened for the need, or `None` where the layer opens. It is closed then.
-pub fn refusing<L: Layer>(layer: &mut L, space: &mut Space, need: u64) -> Option<u32>
-    requires waiting { IsWaiting (L.model layer.old) space.old }
-    requires need { need ≤ limit }
-    ensures { IsWaiting (L.model layer.new) space.new }
-{
-    match open(layer, space, need) {
-        Ok(()) => {
-            close(layer, space);
-            None
-        }
-        Err(refused) => Some(refused.node),
-    }
-}
-
 /// A block of `n` bytes of an open layer, or `None`. Blocks that were served before stay so.
 pub fn serve<L: Layer>(layer: &mut L, space: &mut Space, n: u64) -> Option<Block>
     requires { IsReady (L.model layer.old) space.old }

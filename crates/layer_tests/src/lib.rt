@@ -1,4 +1,4 @@
-//! Layers and heaps, call by call: each form over a leaf, over a region, and over one another.
+//! Layers, call by call: what no trace can say of them.
 #![tactic(auto)]
 
 #[cfg(test)]
@@ -10,11 +10,7 @@ mod collectors;
 #[cfg(test)]
 mod free_lists;
 #[cfg(test)]
-mod heaps;
-#[cfg(test)]
 mod leaves;
-#[cfg(test)]
-mod quantizers;
 #[cfg(test)]
 mod quotas;
 #[cfg(test)]

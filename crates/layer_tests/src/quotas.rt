@@ -36,6 +36,7 @@ fn told<L: Layer>(rt: &impl Abort, layer: &L, space: &Space) -> [u64; 2]
 // and of the one that is served in its stead.
 fn answers<L: Layer>(rt: &impl Abort, layer: &mut L, space: &mut Space) -> [[u64; 2]; 3]
     requires { IsWaiting (L.model layer.old) space.old }
+    ensures { IsWaiting (L.model layer.new) space.new }
 {
     assert!(rt; open(layer, space, 201).is_err());
     assert!(rt; open(layer, space, 200).is_ok());
@@ -107,31 +108,20 @@ fn a_quota_over_a_leaf(rt: HostRuntime) -> Result<(), Fail> {
         answers(&rt, &mut quota, &mut space),
         [[200, 200], [100, 200], [128, 128]]
     );
-    Ok(())
-}
-
-#[test]
-#[tactic(auto, unfolding(leaf_rules::specs::MemRules::mem_rules))]
-fn a_quota_that_is_used_up(rt: HostRuntime) -> Result<(), Fail> {
-    let (mut space, leaf) = space_and_leaf(rt.alloc(), 16)?;
-    let mut quota = quota_over(&space, 200, leaf);
     assert_eq!(rt; grown(&rt, &mut quota, &mut space), [[200, 200], [0, 200]]);
     Ok(())
 }
 
-// A leaf doesn't offer to say whether it owns a block, and a null layer owns none.
+// A null layer owns no block, and has no child.
 #[test]
 #[tactic(auto, unfolding(leaf_rules::specs::MemRules::mem_rules, layer_rules::specs::NullRules::null_rules))]
 fn a_quota_on_a_path(rt: HostRuntime) -> Result<(), Fail> {
-    let (space, leaf) = space_and_leaf(rt.alloc(), 16)?;
+    let (space, _leaf) = space_and_leaf(rt.alloc(), 16)?;
     let block = Block { place: 0, len: 64 };
-    let over_leaf = quota_over(&space, 200, leaf);
-    assert!(rt; matches!(asked(&over_leaf, 0, block), Asked::NotOffered));
-    assert!(rt; matches!(asked(&over_leaf, 1, block), Asked::NoSuchLayer));
-    let over_null = quota_over(&space, 200, NullLayer::new());
-    assert!(rt; over_null.offers().owns);
-    assert!(rt; !over_null.holds(block));
-    assert!(rt; matches!(asked(&over_null, 0, block), Asked::No));
-    assert!(rt; matches!(asked(&over_null, 1, block), Asked::NoSuchLayer));
+    let quota = quota_over(&space, 200, NullLayer::new());
+    assert!(rt; quota.offers().owns);
+    assert!(rt; !quota.holds(block));
+    assert!(rt; matches!(asked(&quota, 0, block), Asked::No));
+    assert!(rt; matches!(asked(&quota, 1, block), Asked::NoSuchLayer));
     Ok(())
 }

@@ -500,6 +500,37 @@ impl Sink for PieceSink {
     }
 }
 
+// A sink that keeps how many bytes were put before each of its first flushes, since the one before.
+#[derive(Drop)]
+struct HandedSink {
+    sink: MemorySink,
+    put: usize,
+    flushes: usize,
+    handed: [usize; 8],
+}
+
+impl Sink for HandedSink {
+    ghost holds = { λ s. Some s.sink.bytes };
+
+    ghost faults = { λ s. s.sink.faults };
+
+    ghost flushed = { λ _. true };
+
+    fn put(&mut self, piece: &[u8], space: &Space) -> Result<usize, Failed> {
+        self.put = self.put.saturating_add(piece.len());
+        self.sink.put(piece, space)
+    }
+
+    fn flush(&mut self) -> Result<(), Failed> {
+        if let Some(bytes) = self.handed.get_mut(self.flushes) {
+            *bytes = self.put;
+        }
+        self.put = 0;
+        self.flushes = self.flushes.saturating_add(1);
+        self.sink.flush()
+    }
+}
+
 // A writer that counts what it was given.
 #[derive(Drop)]
 struct FarEnd<'a> {
@@ -653,6 +684,32 @@ fn answers_come_before_more_is_asked(rt: HostRuntime) -> Result<(), Fail> {
     assert_eq!(rt; status, Status::Good);
     assert_eq!(rt; early.get(), 0);
     assert_eq!(rt; written.get(), 112);
+    Ok(())
+}
+
+// Of a trace that is all there, 4,096 bytes are taken at a time, here 512 lines, and their answers are handed on at once
+// before more is asked for: those of 512 lines, of 512, of the 76 that are left, and then the report.
+#[test]
+fn answers_are_handed_on_by_pieces(rt: HostRuntime) -> Result<(), Fail> {
+    let alloc = rt.alloc();
+    let mut trace = String::new(alloc);
+    for _ in 0..1100u32 {
+        trace.push_str("a 1 0  \n")?;
+    }
+    let mut source = StillSource::new(Vec::from_slice(alloc, trace.as_bytes())?);
+    let Ok(sink) = MemorySink::new(alloc, 16_384, Vec::new(alloc)) else {
+        panic!(rt; "no memory");
+    };
+    let mut sink = HandedSink {
+        sink,
+        put: 0,
+        flushes: 0,
+        handed: [0; 8],
+    };
+    let status = ended(alloc, &["replay", "mem", "1"], &mut source, &mut sink)?;
+    assert_eq!(rt; status, Status::Good);
+    assert_eq!(rt; sink.flushes, 5);
+    assert_eq!(rt; sink.handed, [0, 4608, 4608, 684, 32, 0, 0, 0]);
     Ok(())
 }
 

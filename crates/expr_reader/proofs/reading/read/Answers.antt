@@ -4,7 +4,7 @@ use Rattle.expr_reader.specs.Trees.{tree_of}
 use Rattle.expr_reader.specs.Answers.{IsAccepted}
 use Rattle.expr_reader.specs.Buildable.{IsBuildable}
 use Rattle.expr_reader.specs.Descent.{Answers, answer_to}
-use Rattle.expr_reader.proofs.Builds.{accepted-buildable}
+use Rattle.expr_reader.proofs.Flawless.{accepted-buildable}
 use Rattle.expr_reader.proofs.Whole.{read_sound, read_accepts, read_refuses}
 use Rattle.expr_reader.proofs.reading.read.Goals as goal
 use Rattle.expr_reader.proofs.reading.read.Goals.{After-answer}

@@ -1,5 +1,5 @@
 use Rattle.std.proofs.Common.{◌∙◌}
-use Rattle.layer_laws.specs.FurtherLaws.{owned-keeps}
+use Rattle.layer_laws.proofs.FurtherLaws.{owned-keeps}
 use Rattle.layer_tests.proofs.calls.asks.Goals as goal
 
 pub returns-clause-ready : goal.returns-clause-ready

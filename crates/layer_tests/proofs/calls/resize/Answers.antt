@@ -1,5 +1,5 @@
 use Rattle.std.proofs.Common.{◌∙◌}
-use Rattle.layer_laws.specs.StandingReallocated.{reallocated-keeps}
+use Rattle.layer_laws.proofs.StandingReallocated.{reallocated-keeps}
 use Rattle.layer_tests.proofs.CallLaws.{resized-held}
 use Rattle.layer_tests.proofs.calls.resize.Goals as goal
 

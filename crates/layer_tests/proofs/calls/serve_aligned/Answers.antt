@@ -1,5 +1,5 @@
 use Rattle.std.proofs.Common.{◌∙◌}
-use Rattle.layer_laws.specs.FurtherLaws.{aligned_allocated-keeps}
+use Rattle.layer_laws.proofs.FurtherLaws.{aligned_allocated-keeps}
 use Rattle.layer_tests.proofs.CallLaws.{served_aligned-held}
 use Rattle.layer_tests.proofs.calls.serve_aligned.Goals as goal
 

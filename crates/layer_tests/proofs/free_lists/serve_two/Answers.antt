@@ -3,9 +3,9 @@ use Rattle.std.specs.Prelude.{IfSome}
 use Rattle.space_core.specs.Memory.{Memory}
 use Rattle.layer_rules.specs.declared.Block.{Block}
 use Rattle.layer_rules.specs.Layering.{LayerModel, state_of, Allocates, AreApartIn}
-use Rattle.layer_laws.specs.Apart.{apart-flip}
+use Rattle.layer_laws.proofs.Apart.{apart-flip}
 use Rattle.layer_laws.specs.Lawful.{IsMade}
-use Rattle.layer_laws.specs.StandingLaws.{allocated-gives, allocated-keeps_extents}
+use Rattle.layer_laws.proofs.StandingLaws.{allocated-gives}
 use Rattle.layer_tests.specs.Between.{IsReady, IsHeld}
 use Rattle.layer_tests.proofs.free_lists.serve_two.Goals as goal
 
@@ -15,8 +15,7 @@ apart-two t t' m m' k b c None l h o q a = absurd (cc)
 apart-two t t' m m' k b c (Some d) l h o q a =
     let z : d ≡ c = cc in
     let x : Allocates t t' m m' k (Some c) = rw z at a in
-    let far = apart-flip t.rules (state_of t m) c b ((allocated-gives t t' m m' k c l h.stands h.opened x).fresh b o.out) in
-    record { either = rw (allocated-keeps_extents t t' m m' k (Some c) l h.stands h.opened x b, allocated-keeps_extents t t' m m' k (Some c) l h.stands h.opened x c) far.either }
+    apart-flip t'.rules (state_of t' m') c b ((allocated-gives t t' m m' k c l h.stands h.opened x).fresh b o.out)
 
 held-one : (t : LayerModel) (m : Memory) (b : Block) (r : Option Block) → r ≡ Some b → IfSome r (λ b. IsHeld t m b) → IsHeld t m b
 held-one t m b None q h = absurd (cc)

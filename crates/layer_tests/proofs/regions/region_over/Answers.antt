@@ -1,5 +1,5 @@
 use Rattle.std.proofs.Common.{refl, lit≤, arith}
-use Rattle.size_round.specs.PowerLaws.{powers_pass}
+use Rattle.size_round.proofs.PowerLaws.{powers_pass}
 use Rattle.layer_tests.proofs.regions.region_over.Goals as goal
 
 pub new-requires-clause-proper : goal.new-requires-clause-proper

@@ -8,8 +8,8 @@ use Rattle.shapes.specs.Proper.{is_composition}
 use Rattle.expr_reader.specs.Trees.{Tree}
 use Rattle.expr_reader.specs.Answers.{IsAccepted}
 use Rattle.expr_reader.specs.Buildable.{IsBuildable}
-use Rattle.expr_reader.specs.ShapeOf.{shape_of}
-pub use Rattle.expr_reader.specs.ShapeOf.{leaf_count}
+use Rattle.expr_builder.specs.ShapeOf.{shape_of}
+pub use Rattle.expr_builder.specs.ShapeOf.{leaf_count}
 
 -- the Space with so many leaves more
 abbrev pub with_leaves : ℕ → Memory → Memory

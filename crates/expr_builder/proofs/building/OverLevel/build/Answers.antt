@@ -5,10 +5,10 @@ use Rattle.expr_reader.specs.declared.tree.Bounds.{Bounds}
 use Rattle.expr_reader.specs.declared.tree.Form.{Form}
 use Rattle.expr_reader.specs.Trees.{tree_of, form_tree, node, last, number, bounds_args, kind_args}
 use Rattle.shapes.specs.RulesOf.{rules_of}
-use Rattle.expr_reader.specs.ShapeOf.{shape_of}
-use Rattle.expr_reader.proofs.Builds.{layer-stands}
-use Rattle.expr_reader.proofs.WordMeanings.{region-proper, freelist-proper, quantize-kind, quantize-proper, stats-proper, affix-proper}
-use Rattle.expr_reader.proofs.building.OverLevel.build.Goals as goal
+use Rattle.expr_builder.specs.ShapeOf.{shape_of}
+use Rattle.expr_builder.proofs.Builds.{layer-stands}
+use Rattle.expr_builder.proofs.WordMeanings.{region-proper, freelist-proper, quantize-kind, quantize-proper, stats-proper, affix-proper}
+use Rattle.expr_builder.proofs.building.OverLevel.build.Goals as goal
 
 pub new-layer-requires-clause-proper : goal.new-layer-requires-clause-proper
 new-layer-requires-clause-proper g c =
@@ -30,16 +30,16 @@ new-layer-requires-in-Range-clause-proper g c =
     freelist-proper x.min x.max below made _ (c.in_ok-build-in-Range.ensures.rules ∙ ap (λ (e : Expr). rules_of (shape_of (tree_of e) made)) c.deref-in-Range.ensures)
     (layer-stands (tree_of expr) expr.at name.FreeList (number x.min (number x.max (last below))) made is c.requires.buildable)
 
-pub quantizer-requires-clause-kind : goal.quantizer-requires-clause-kind
-quantizer-requires-clause-kind g c =
+pub quantizer-layer-requires-clause-kind : goal.quantizer-layer-requires-clause-kind
+quantizer-layer-requires-clause-kind g c =
     let made = c.args.space.now.leaves in
     let expr = c.args.expr.now in
     let x = c.in-Quantize in
     let below = tree_of x.parent.value in
     quantize-kind x.kind below made (layer-stands (tree_of expr) expr.at name.Quantize (kind_args x.kind (last below)) made (ap (λ (f : Form). form_tree expr.at f) x.is) c.requires.buildable)
 
-pub quantizer-requires-clause-proper : goal.quantizer-requires-clause-proper
-quantizer-requires-clause-proper g c =
+pub quantizer-layer-requires-clause-proper : goal.quantizer-layer-requires-clause-proper
+quantizer-layer-requires-clause-proper g c =
     let made = c.args.space.now.leaves in
     let expr = c.args.expr.now in
     let x = c.in-Quantize in

@@ -8,16 +8,17 @@ ghost use Rattle.quantize_rules.specs.QuantizeRules.{quantize_rules};
 ghost use Rattle.quantizer.specs.QuantizerProper.{IsProper};
 ghost use Rattle.composition.specs.CompositionModel.{composition_of};
 ghost use Rattle.composition.specs.LevelModel.{over_of};
+ghost use Rattle.composition.specs.AnyModel.{any_of};
 ghost use Rattle.shapes.specs.RulesOf.{rules_of};
 ghost use Rattle.expr_reader.specs.Trees.{tree_of};
 ghost use Rattle.expr_reader.specs.Grammar.{depth};
 ghost use Rattle.expr_reader.specs.Buildable.{IsBuildable};
-ghost use Rattle.expr_reader.specs.ShapeOf.{shape_of, kind_of};
-ghost use Rattle.expr_reader.specs.Sound.{leaf_count, with_leaves, AcceptedAreCompositions, BuildableAreCompositions};
+ghost use Rattle.expr_builder.specs.ShapeOf.{shape_of, kind_of};
+ghost use Rattle.expr_builder.specs.Sound.{leaf_count, with_leaves};
 
-use crate::tree::{Bounds, Expr, Form, RoundKind};
 use affix_layer::Affix;
-use composition::{Composition, Half, Leaf, Over, Over2, Quarter, ThreeQuarters};
+use composition::{AnyLayer, Composition, Half, Leaf, Over, Over2, Quarter, ThreeQuarters};
+use expr_reader::{Bounds, Expr, Form, RoundKind};
 use free_list::FreeList;
 use layer_core::{Layer, NullLayer};
 use quantizer::Quantizer;
@@ -67,30 +68,26 @@ fn boxed<L: Drop>(alloc: Global, layer: L) -> Result<Box<L>, NoMemory>
 }
 
 /// A quantizer over the layer, by the rounding that is known only at run time.
-#[tactic(auto, unfolding(composition::specs::LevelModel::over_of))]
-fn quantizer<P: Layer>(alloc: Global, kind: RoundKind, below: P) -> Result<Over<P>, NoMemory>
+#[tactic(auto, unfolding(composition::specs::AnyModel::any_of))]
+fn quantizer<P: Layer>(kind: RoundKind, below: P) -> AnyLayer<P>
     requires kind { is_proper_kind (kind_of kind) ≡ true }
     requires shut { IsShut (P.model below) }
     requires proper { IsProper (P.model below).rules }
-    ensures rules { IfOk result (λ l. (over_of P.model l).rules ≡ quantize_rules (kind_of kind) (P.model below).rules) }
-    ensures shut { IfOk result (λ l. IsShut (over_of P.model l)) }
+    ensures rules { (any_of P.model result).rules ≡ quantize_rules (kind_of kind) (P.model below).rules }
+    ensures shut { IsShut (any_of P.model result) }
 {
     match kind {
         RoundKind::Step { step } => {
-            let layer = Quantizer::new(Multiple::new(step), below);
-            Ok(Over::QuantizeStep(boxed(alloc, layer)?))
+            AnyLayer::QuantizeStep(Quantizer::new(Multiple::new(step), below))
         }
-        RoundKind::Pow2 => {
-            let layer = Quantizer::new(PowerOfTwo, below);
-            Ok(Over::QuantizePow2(boxed(alloc, layer)?))
-        }
+        RoundKind::Pow2 => { AnyLayer::QuantizePow2(Quantizer::new(PowerOfTwo, below)) }
     }
 }
 
 impl<P: Level> Level for Over<P> {
     ghost levels = { P.levels + 1 };
 
-    #[tactic(auto, using(crate::proofs::Nothing::nothing_fits), unfolding(shapes::specs::RulesOf::rules_of, composition::specs::LevelModel::over_of))]
+    #[tactic(auto, using(expr_reader::proofs::Nothing::nothing_fits), unfolding(shapes::specs::RulesOf::rules_of, composition::specs::LevelModel::over_of, composition::specs::AnyModel::any_of))]
     fn build(alloc: Global, expr: &Expr, space: &mut Space) -> Result<Over<P>, NoMemory> {
         match &expr.form {
             Form::Region {
@@ -99,22 +96,23 @@ impl<P: Level> Level for Over<P> {
                 parent,
             } => {
                 let layer = Region::new(*size, *align, P::build(alloc, parent, space)?);
-                Ok(Over::Region(boxed(alloc, layer)?))
+                Ok(Over::Layer(boxed(alloc, AnyLayer::Region(layer))?))
             }
             Form::FreeList { bounds, parent } => match *bounds {
                 Bounds::Range { min, max } => {
                     let layer = FreeList::new(min, max, P::build(alloc, parent, space)?);
-                    Ok(Over::FreeList(boxed(alloc, layer)?))
+                    Ok(Over::Layer(boxed(alloc, AnyLayer::FreeList(layer))?))
                 }
                 // The word `any` is none of the grammar yet.
                 Bounds::Any => unreachable!(),
             },
             Form::Quantize { kind, parent } => {
-                quantizer(alloc, *kind, P::build(alloc, parent, space)?)
+                let layer = quantizer(*kind, P::build(alloc, parent, space)?);
+                Ok(Over::Layer(boxed(alloc, layer)?))
             }
             Form::Stats { parent } => {
                 let layer = StatsCollector::new(P::build(alloc, parent, space)?);
-                Ok(Over::Stats(boxed(alloc, layer)?))
+                Ok(Over::Layer(boxed(alloc, AnyLayer::Stats(layer))?))
             }
             Form::Affix {
                 prefix,
@@ -122,10 +120,10 @@ impl<P: Level> Level for Over<P> {
                 parent,
             } => {
                 let layer = Affix::new(*prefix, *suffix, P::build(alloc, parent, space)?);
-                Ok(Over::Affix(boxed(alloc, layer)?))
+                Ok(Over::Layer(boxed(alloc, AnyLayer::Affix(layer))?))
             }
-            // The levels that are left over stand below the last layer.
-            _ => Ok(Over::Pass(P::build(alloc, expr, space)?)),
+            // Below the last layer the composition ends.
+            _ => Ok(Over::Leaf(Leaf::build(alloc, expr, space)?)),
         }
     }
 }
@@ -182,14 +180,3 @@ pub fn build(alloc: Global, expr: &Expr, space: &mut Space) -> Result<Compositio
 {
     Composition::build(alloc, expr, space)
 }
-
-/// A buildable expression stands for a composition within its bounds, whose rules are lawful. Its leaves are the next that the
-/// Space makes, each once.
-pub fn buildable_are_compositions()
-    ensures { BuildableAreCompositions }
-{}
-
-/// So does an expression that was accepted.
-pub fn accepted_are_compositions()
-    ensures { AcceptedAreCompositions }
-{}

@@ -15,8 +15,7 @@ use Rattle.layer_rules.specs.Handing.{handing_rules}
 use Rattle.shapes.specs.Shape.{Shape, quantize}
 use Rattle.shapes.specs.RulesOf.{rules_of}
 use Rattle.shapes.specs.Proper.{is_proper}
-use Rattle.shapes.specs.ShapeMeanings.{HasLawfulForms}
-use Rattle.layer_laws.specs.Basics.{and-fst, and-snd}
+use Rattle.layer_laws.proofs.Basics.{and-fst, and-snd}
 use Rattle.region_block.specs.RegionProper as region
 use Rattle.free_list.specs.FreeListProper as free_list
 use Rattle.quantizer.specs.QuantizerProper as quantizer
@@ -36,7 +35,7 @@ use Rattle.expr_reader.specs.Grammar.{FitsIn, depth, greatest_depth}
 use Rattle.expr_reader.specs.Faults.{most_layers}
 use Rattle.expr_reader.specs.Flaws.{heads, alignment, least_alignment, word_alignment, needs, keeps_ranges}
 use Rattle.expr_reader.specs.Buildable.{ArePassed, KeepsRules}
-use Rattle.expr_reader.specs.ShapeOf.{kind_of, leaf_shape, leaves_of, layer_shape, leaf_count, leaf_count_in, shape_of, shapes}
+use Rattle.expr_builder.specs.ShapeOf.{kind_of, leaf_shape, leaves_of, layer_shape, leaf_count, leaf_count_in, shape_of, shapes}
 use Rattle.expr_reader.proofs.Nothing.{nothing_fits}
 
 -- The shape is proper, with this alignment and so many layers on its one path, and its leaves take the next so many tags.
@@ -45,7 +44,6 @@ pub record Means (s : Shape) (align deep count made : ℕ) : Type 0 where
   pub layers : (rules_of s).depth ≡ deep
   pub nodes : (rules_of s).nodes ≡ deep + 1
   pub proper : is_proper s ≡ true
-  pub lawful : HasLawfulForms s
   pub distinct : HasDistinctTags (rules_of s)
   pub next : (tag : ℕ) → IsLeaf (rules_of s) tag → (made < tag) × (tag ≤ made + count)
   pub single : count ≤ 1
@@ -60,14 +58,13 @@ KeepsMeaning k hs =
 
 pub leaf-means : (k : Name) → takes k ≡ Alone → (made : ℕ) → Means (leaf_shape k made) (word_alignment k [] 0) 0 (leaves_of (leaf_shape k 0)) made
 unfolding rules_of is_proper null_rules mem_rules
-leaf-means name.Null f made = record { aligned = refl; layers = refl; nodes = refl; proper = refl; lawful = tt; distinct = tt; next = λ tag h. absurd h; single = omega arith }
+leaf-means name.Null f made = record { aligned = refl; layers = refl; nodes = refl; proper = refl; distinct = tt; next = λ tag h. absurd h; single = omega arith }
 leaf-means name.Mem f made =
     record {
       aligned = refl;
       layers = refl;
       nodes = refl;
       proper = refl;
-      lawful = tt;
       distinct = (tt, tt);
       next = λ tag h. elim h [ inl q ↦ (omega (arith, q), omega (arith, q)) | inr n ↦ absurd n ];
       single = omega arith;
@@ -86,7 +83,6 @@ region-means size align s below deep count made kept enough m =
       layers = ap (λ n. suc n) m.layers;
       nodes = omega (arith, nodes);
       proper = proper-region (is_between 1 size_bound size) (is_between 1 4096 align) (is_power_of_two align) (nat_le align below) _ _ kept.0 kept.1.0 (le-leb align below enough) (ap (λ n. nat_le align n) m.aligned) m.proper;
-      lawful = m.lawful;
       distinct = m.distinct;
       next = m.next;
       single = m.single;
@@ -104,7 +100,6 @@ freelist-means least greatest s below deep count made kept enough m =
       layers = ap (λ n. suc n) m.layers;
       nodes = omega (arith, nodes);
       proper = proper-freelist (is_between 8 size_bound greatest) (nat_le least greatest) _ _ kept.1.0 kept.0 refl m.proper;
-      lawful = m.lawful;
       distinct = m.distinct;
       next = m.next;
       single = m.single;
@@ -122,7 +117,6 @@ quantized-means rounding s align deep count made p m =
       layers = ap (λ n. suc n) m.layers;
       nodes = omega (arith, nodes);
       proper = proper-quantize (is_proper_kind rounding) _ p m.proper;
-      lawful = m.lawful;
       distinct = m.distinct;
       next = m.next;
       single = m.single;
@@ -143,7 +137,6 @@ stats-means s align deep count made kept enough m =
       layers = ap (λ n. suc n) m.layers;
       nodes = omega (arith, nodes);
       proper = m.proper;
-      lawful = m.lawful;
       distinct = m.distinct;
       next = m.next;
       single = m.single;
@@ -166,7 +159,6 @@ affix-means prefix suffix s below deep count made kept enough m =
       nodes = omega (arith, nodes);
       proper = proper-affix (is_multiple prefix 8) (is_multiple suffix 8) (nat_le prefix 256) (nat_le suffix 256) (nat_eq prefix 0 || nat_le 8 below) _ _ kept.0 kept.1.0 (eight-or (nat_eq prefix 0) below enough)
           (ap (λ n. nat_eq prefix 0 || nat_le 8 n) m.aligned) m.proper;
-      lawful = m.lawful;
       distinct = m.distinct;
       next = m.next;
       single = m.single;

@@ -1,0 +1,3 @@
+pub mod WordMeanings
+pub mod Builds
+pub mod Places

@@ -1,0 +1,2 @@
+pub mod ShapeOf
+pub mod Sound
