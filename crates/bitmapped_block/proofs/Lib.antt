@@ -1,0 +1,14 @@
+pub mod Changing
+pub mod Marking
+pub mod Masks
+pub mod Opening
+pub mod Placing
+pub mod Putting
+pub mod RowBits
+pub mod Scanning
+pub mod Seeking
+pub mod Serving
+pub mod SettingUp
+pub mod Standing
+pub mod Tallying
+pub mod Telling
