@@ -4,6 +4,8 @@
 #[cfg(test)]
 mod affixes;
 #[cfg(test)]
+mod bitmaps;
+#[cfg(test)]
 mod calls;
 #[cfg(test)]
 mod collectors;
